@@ -1,0 +1,4 @@
+pub mod Vector
+pub mod Line
+pub mod Number
+pub mod Worked

@@ -1,0 +1,10 @@
+// Lines across a page: which way they run, where each step lands, and which number a pixel has on its line.
+// The definitions stand in specs/: Vector (the two kinds of slope), Line (D, phases, steps), Number (behind, ahead).
+
+// A line as a ticket orders it: connected or periodic, along the vector (dx, dy), with a phase.
+pub struct Line {
+    pub periodic: bool,
+    pub dx: i32,
+    pub dy: i32,
+    pub phase: usize,
+}
