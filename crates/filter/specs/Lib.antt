@@ -1,0 +1,6 @@
+pub mod Seen
+pub mod Filters
+pub mod Work
+pub mod Answer
+pub mod Job
+pub mod Cases

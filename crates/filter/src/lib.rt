@@ -1,0 +1,28 @@
+// The job: a page of one tray filtered along lines into another.
+// The definitions stand in specs/: Seen (the page as the filter sees it), Filters (windows, erosion, dilation, opening, closing),
+// Work (comparisons), Answer (refusals, their numbers and places), Job (answer, output tray and scratch of a job).
+
+// Where a page stands in its tray: the byte of its corner, and how far apart its rows start.
+pub struct Spot {
+    pub offset: usize,
+    pub stride: usize,
+}
+
+// Where the two pages of a job stand. They share their sides; each has its own offset and stride.
+pub struct Placements {
+    pub width: usize,
+    pub height: usize,
+    pub source: Spot,
+    pub output: Spot,
+}
+
+// What a job answers: its work, or why it is refused. A box is named by its number.
+pub enum Answer {
+    Done(u64),
+    BadTicket(ticket::Fault, usize),
+    BadSides,
+    SourceTooShort,
+    OutputTooShort,
+    ScratchTooShort,
+    BadBox(usize),
+}

@@ -1,0 +1,37 @@
+-- Document 01, 'Placing a page': "A placement is offset, width w, height h and stride."
+-- Everything is said over whole numbers, so an offset near the largest 64-bit number does not wrap.
+-- Assumes nothing.
+use Prim.Native.Nat.{ℕ, _+_, _-_, _*_, max}
+use mathlib.Core.Bool.{Bool, _&&_}
+use mathlib.Core.List.{List}
+use lib.ListN.{getD}
+use lib.Dec.{leb}
+use Rattle.tray.specs.declared.Placement.{Placement}
+
+-- "The pixel at column c, row r is byte offset + r·stride + c."
+unfoldable pub byteOf : Placement → ℕ → ℕ → ℕ
+byteOf p c r = p .offset + r * p .stride + c
+
+unfoldable pub pixelIn : List ℕ → Placement → ℕ → ℕ → ℕ
+pixelIn tray p c r = getD tray (byteOf p c r) 0
+
+abbrev pub longestSide : ℕ
+longestSide = 8192
+
+abbrev pub longestStride : ℕ
+longestStride = 16384
+
+-- "Limits: w and h 1 to 8192, stride from w to 16384."
+unfoldable pub sideAllowed : ℕ → Bool
+sideAllowed n = leb 1 n && leb n longestSide
+
+unfoldable pub allowed : Placement → Bool
+allowed p = sideAllowed (p .width) && sideAllowed (p .height) && (leb (p .width) (p .stride) && leb (p .stride) longestStride)
+
+-- "A page fits if offset + (h-1)·stride + w is at most the tray's length, over whole numbers."
+unfoldable pub fits : Placement → ℕ → Bool
+fits p length = leb (p .offset + (p .height - 1) * p .stride + p .width) length
+
+-- "Scratch needed: 2·w·h + 3·max(w, h) bytes."
+unfoldable pub scratchNeeded : ℕ → ℕ → ℕ
+scratchNeeded w h = 2 * w * h + 3 * max w h
