@@ -53,6 +53,14 @@ passAt low l a n page M m (some v) = extreme low (inWindow l page a M m) 0 n
 unfoldable pub pass : Bool → Line → ℕ → ℕ → View → View
 pass low l a n page M m = passAt low l a n page M m (page M m)
 
+abbrev pub white : ℕ
+white = 255
+
+-- "A hidden pixel comes out as 255 in every finished page."
+unfoldable pub orWhite : Option ℕ → ℕ
+orWhite none = white
+orWhite (some v) = v
+
 -- "Erosion at step x is the minimum over steps x-o to x-o+L-1."
 unfoldable pub eroded : Ticket → View → View
 eroded t page = pass true (lineOf t) (t .origin) (t .length) page
@@ -78,14 +86,6 @@ unfoldable pub filtered : Ticket → View → View
 filtered t page =
     cond (eqb (t .operation) 1) (eroded t page)
     (cond (eqb (t .operation) 2) (dilated t page) (cond (eqb (t .operation) 3) (opened t page) (closed t page)))
-
-abbrev pub white : ℕ
-white = 255
-
--- "A hidden pixel comes out as 255 in every finished page."
-unfoldable pub orWhite : Option ℕ → ℕ
-orWhite none = white
-orWhite (some v) = v
 
 -- the finished page, by column and row
 unfoldable pub finished : Ticket → Placement → List ℕ → ℕ → ℕ → ℕ
