@@ -1,0 +1,88 @@
+//! Whole jobs at random placements, with none, one or two flaws.
+
+use super::{inputs, ticket_for, Make};
+use crate::job::Job;
+use crate::placement::{scratch_needed, Placement, LONGEST_STRIDE};
+use crate::random::Random;
+
+pub fn job(random: &mut Random) -> Job {
+    let mut job = fitting_job(random);
+    // Two flaws in one job show which of them is judged first.
+    for _ in 0..random.pick(&[0, 0, 0, 1, 1, 2]) {
+        flaw(random, &mut job);
+    }
+    job
+}
+
+/// A job whose pages fit; its ticket is mostly valid for it.
+fn fitting_job(random: &mut Random) -> Job {
+    let (width, height) = if random.one_in(100) {
+        random.pick(&[(8192, 1), (1, 8192), (8192, 2)])
+    } else {
+        (random.between(1, 12) as u16, random.between(1, 12) as u16)
+    };
+    let make = random.pick(&[Make::Valid, Make::Valid, Make::Valid, Make::Boundary]);
+    let ticket = ticket_for(random, width, height, make);
+    let (width, height) = (u64::from(width), u64::from(height));
+    let (source_page, source_length) = placed(random, width, height);
+    let (output_page, output_length) = placed(random, width, height);
+    let scratch_length = scratch_needed(width, height) as usize + random.pick(&[0, 0, 1, 17]);
+    Job {
+        ticket,
+        width,
+        height,
+        source_offset: source_page.offset,
+        source_stride: source_page.stride,
+        output_offset: output_page.offset,
+        output_stride: output_page.stride,
+        source: inputs::pixels(random, source_length),
+        output: random.bytes(output_length),
+        scratch: random.bytes(scratch_length),
+    }
+}
+
+/// A page with neighbours beside, above and below it in its tray, and the tray's length.
+fn placed(random: &mut Random, width: u64, height: u64) -> (Placement, usize) {
+    let left_of_it = random.pick(&[0, 0, 1, width.min(60)]);
+    let right_of_it = random.pick(&[0, 0, 1, 5, width.min(60)]);
+    let mut stride = left_of_it + width + right_of_it;
+    // The longest stride only where few rows keep the tray small.
+    if height <= 12 && random.one_in(50) {
+        stride = LONGEST_STRIDE;
+    }
+    let offset = random.below(3) * stride + left_of_it;
+    let page = Placement { offset, width, height, stride };
+    let spare = random.pick(&[0, 0, 1, right_of_it, 40]);
+    (page, page.end() as usize + spare as usize)
+}
+
+fn flaw(random: &mut Random, job: &mut Job) {
+    let huge = random.pick(&[u64::MAX, u64::MAX - 1, u64::MAX - 200, 1 << 63, 1 << 32]);
+    let stride = random.pick(&[0, job.width.saturating_sub(1), LONGEST_STRIDE, 16385, huge]);
+    let side = random.pick(&[0, 8192, 8193, huge]);
+    match random.below(12) {
+        0 => shorten(&mut job.source, &[1], random),
+        1 => shorten(&mut job.output, &[1], random),
+        2 => shorten(&mut job.scratch, &[1, 18], random),
+        3 => job.source_offset = huge,
+        4 => job.output_offset = huge,
+        5 => {
+            // Strides that follow, so that the width alone is judged.
+            job.width = side;
+            job.source_stride = job.source_stride.max(side.min(LONGEST_STRIDE));
+            job.output_stride = job.output_stride.max(side.min(LONGEST_STRIDE));
+        }
+        6 => job.height = side,
+        7 => job.source_stride = stride,
+        8 => job.output_stride = stride,
+        9 => job.source.clear(),
+        10 => job.ticket.truncate(random.index(job.ticket.len() + 1)),
+        _ => job.ticket.extend([7, 0, 8, 255, 255, 0, 0, 0, 2, 0, 1]),
+    }
+}
+
+/// Cuts bytes off the end: one too few where there was nothing to spare.
+fn shorten(bytes: &mut Vec<u8>, by: &[usize], random: &mut Random) {
+    let by = random.pick(by);
+    bytes.truncate(bytes.len().saturating_sub(by));
+}

@@ -1,0 +1,102 @@
+//! A whole job: ticket, placements and the three lent buffers in; answer and buffers out.
+
+use crate::filter;
+use crate::lines::Sides;
+use crate::placement::{scratch_needed, Placement};
+use crate::refusal::{self, unless, Refusal};
+use crate::ticket::{self, HiddenBox, Ticket};
+use crate::work;
+
+/// All that is lent to a job; output and scratch with their old contents.
+#[derive(Clone, Debug, PartialEq, Eq)]
+pub struct Job {
+    pub ticket: Vec<u8>,
+    pub width: u64,
+    pub height: u64,
+    pub source_offset: u64,
+    pub source_stride: u64,
+    pub output_offset: u64,
+    pub output_stride: u64,
+    pub source: Vec<u8>,
+    pub output: Vec<u8>,
+    pub scratch: Vec<u8>,
+}
+
+/// Refusal number 0 for a finished job, with place 0; work 0 for a refused one.
+#[derive(Clone, Copy, Debug, PartialEq, Eq)]
+pub struct Answer {
+    pub refusal: u8,
+    pub place: u64,
+    pub work: u64,
+}
+
+/// The answer, and what output tray and scratch hold afterwards.
+#[derive(Clone, Debug, PartialEq, Eq)]
+pub struct Outcome {
+    pub answer: Answer,
+    pub output: Vec<u8>,
+    pub scratch: Vec<u8>,
+}
+
+impl Job {
+    pub fn source_page(&self) -> Placement {
+        let (offset, stride) = (self.source_offset, self.source_stride);
+        Placement { offset, width: self.width, height: self.height, stride }
+    }
+
+    pub fn output_page(&self) -> Placement {
+        let (offset, stride) = (self.output_offset, self.output_stride);
+        Placement { offset, width: self.width, height: self.height, stride }
+    }
+}
+
+pub fn run(job: &Job) -> Outcome {
+    let mut outcome = Outcome {
+        answer: Answer { refusal: refusal::NONE, place: 0, work: 0 },
+        output: job.output.clone(),
+        scratch: job.scratch.clone(),
+    };
+    match judged(job) {
+        Ok(ticket) => finish(job, &ticket, &mut outcome),
+        Err(Refusal { number, place }) => {
+            outcome.answer = Answer { refusal: number, place, work: 0 }
+        }
+    }
+    outcome
+}
+
+/// The ticket's refusals, "then 10, 11, 12, 13, and 14 over the boxes in order".
+fn judged(job: &Job) -> Result<Ticket, Refusal> {
+    let ticket = ticket::read(&job.ticket)?;
+    let (source, output) = (job.source_page(), job.output_page());
+    let limits = source.within_limits() && output.within_limits();
+    unless(limits, refusal::BEYOND_LIMITS, 0)?;
+    unless(source.fits(job.source.len() as u64), refusal::SOURCE_DOES_NOT_FIT, 0)?;
+    unless(output.fits(job.output.len() as u64), refusal::OUTPUT_DOES_NOT_FIT, 0)?;
+    let long_enough = job.scratch.len() as u128 >= scratch_needed(job.width, job.height);
+    unless(long_enough, refusal::SCRATCH_TOO_SHORT, 0)?;
+    for (place, hidden_box) in (0..).zip(ticket.hidden_boxes()) {
+        unless(on_page(hidden_box, job.width, job.height), refusal::BOX_OFF_PAGE, place)?;
+    }
+    Ok(ticket)
+}
+
+/// No zero side and not past the page's edge; 65535 + 2 is 65537 here.
+fn on_page(hidden_box: &HiddenBox, width: u64, height: u64) -> bool {
+    let right = u64::from(hidden_box.left) + u64::from(hidden_box.width);
+    let bottom = u64::from(hidden_box.top) + u64::from(hidden_box.height);
+    hidden_box.width > 0 && hidden_box.height > 0 && right <= width && bottom <= height
+}
+
+fn finish(job: &Job, ticket: &Ticket, outcome: &mut Outcome) {
+    let sides = Sides { width: job.width as i64, height: job.height as i64 };
+    let (source, output) = (job.source_page(), job.output_page());
+    let pixels = sides.pixels();
+    let greys: Vec<u8> = pixels.iter().map(|&pixel| job.source[source.byte(pixel)]).collect();
+    let results = filter::filtered(sides, &greys, ticket);
+    for (&pixel, result) in pixels.iter().zip(results) {
+        outcome.output[output.byte(pixel)] = result;
+    }
+    outcome.scratch[..scratch_needed(job.width, job.height) as usize].fill(0);
+    outcome.answer.work = work::of_job(sides, ticket);
+}

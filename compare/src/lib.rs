@@ -1,0 +1,27 @@
+//! Sotrugla's second program: document 01 read once more, as plainly and as slowly as possible.
+//!
+//! Nothing here is fast on purpose. Every pixel walks its own line, every line is listed and
+//! counted step by step, so that each function can be held against its sentence in the document.
+//!
+//! - `refusal`: the numbers of the refusals, and a refusal with its place
+//! - `ticket`: ticket bytes to fields or a refusal
+//! - `placement`: limits, fitting, the byte of a pixel, the scratch a page needs
+//! - `lines`: the pixel one step on, a pixel's number on its line, every line of a page
+//! - `filter`: erosion, dilation, opening and closing with absent pixels
+//! - `work`: the comparisons of a job, counted block by block
+//! - `job`: a whole job, its answer and the later contents of output tray and scratch
+//! - `page_program`: standard input of the page program to what it must print
+//! - `random`, `generate`: seeded inputs of every kind, for this and for other programs
+//! - `trial`: another page program run over generated inputs
+
+pub mod filter;
+pub mod generate;
+pub mod job;
+pub mod lines;
+pub mod page_program;
+pub mod placement;
+pub mod random;
+pub mod refusal;
+pub mod ticket;
+pub mod trial;
+pub mod work;

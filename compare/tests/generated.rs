@@ -1,0 +1,87 @@
+//! Every kind of generated input does occur, and jobs leave their buffers as promised.
+
+use std::collections::BTreeSet;
+
+use compare::generate;
+use compare::job::run;
+use compare::page_program::{reply, Reply};
+use compare::placement::scratch_needed;
+use compare::ticket::{read, shown, CLOSE, ERODE};
+
+#[test]
+fn two_thousand_page_inputs_bring_every_answer() {
+    let (mut kinds, mut done) = (BTreeSet::new(), BTreeSet::new());
+    for index in 0..2000 {
+        let input = generate::page_input(1, index);
+        let reply = reply(&input);
+        kinds.insert(reply.kind());
+        if let Reply::Done { rows, .. } = reply {
+            let ticket = read(&input[6..input.len() - rows.concat().len()]).expect("it is done");
+            done.insert((ticket.operation, ticket.line));
+        }
+    }
+    let refusals = (1..=10).chain([14]).map(|number| format!("refused {number}"));
+    let others = ["done", "bad input", "too big"].map(String::from);
+    assert_eq!(kinds, refusals.chain(others).collect());
+    let all = (ERODE..=CLOSE).flat_map(|operation| [(operation, 1), (operation, 2)]);
+    assert_eq!(done, all.collect());
+}
+
+#[test]
+fn tickets_bring_every_refusal_and_every_number_of_boxes_at_the_limit() {
+    let (mut numbers, mut counts) = (BTreeSet::new(), BTreeSet::new());
+    for index in 0..2000 {
+        let (refusal, ticket) = shown(&generate::ticket(2, index));
+        numbers.insert(refusal.number);
+        counts.insert(ticket.count);
+    }
+    assert_eq!(numbers, (0..=9).collect());
+    assert!([0, 1, 2, 63, 64].iter().all(|count| counts.contains(count)));
+}
+
+#[test]
+fn jobs_bring_every_refusal_and_write_only_what_they_may() {
+    let mut numbers = BTreeSet::new();
+    for index in 0..2000 {
+        let job = generate::job(3, index);
+        let outcome = run(&job);
+        numbers.insert(outcome.answer.refusal);
+        if outcome.answer.refusal != 0 {
+            assert_eq!(outcome.answer.work, 0);
+            assert_eq!((&outcome.output, &outcome.scratch), (&job.output, &job.scratch));
+            continue;
+        }
+        let needed = scratch_needed(job.width, job.height) as usize;
+        assert!(outcome.scratch[..needed].iter().all(|&byte| byte == 0));
+        assert_eq!(outcome.scratch[needed..], job.scratch[needed..]);
+        for (at, (later, old)) in (0u64..).zip(outcome.output.iter().zip(&job.output)) {
+            let past = at.checked_sub(job.output_offset);
+            let on_page = past.is_some_and(|past| {
+                past % job.output_stride < job.width && past / job.output_stride < job.height
+            });
+            assert!(on_page || later == old, "byte {at} of job {index}");
+        }
+    }
+    assert_eq!(numbers, (0..=14).collect());
+}
+
+#[test]
+fn line_samples_lie_in_every_octant_with_and_without_a_phase() {
+    let mut met = BTreeSet::new();
+    for index in 0..2000 {
+        let lines = generate::line_sample(4, index).lines;
+        let slope = lines.dx.abs().cmp(&lines.dy.abs());
+        met.insert((lines.kind, lines.dx.signum(), lines.dy.signum(), slope, lines.phase > 0));
+    }
+    // Shallow: level, rising, falling, and the two diagonals; steep: upright and two slopes. All
+    // eight are periodic with phase 0 and connected with it; a phase needs a vector above 1, so
+    // only the four sloping ones have one.
+    assert_eq!(met.len(), 8 + 8 + 4);
+}
+
+#[test]
+fn the_same_seed_and_index_give_the_same_input() {
+    assert_eq!(generate::page_input(7, 7), generate::page_input(7, 7));
+    assert_ne!(generate::page_input(7, 7), generate::page_input(7, 8));
+    assert_ne!(generate::page_input(7, 7), generate::page_input(8, 7));
+}
