@@ -6,9 +6,11 @@ mod damage;
 mod draft;
 mod inputs;
 mod jobs;
+mod lists;
 
 pub use draft::Draft;
 pub use inputs::assemble;
+pub use lists::{ticket_list, TicketList};
 
 use crate::job::Job;
 use crate::lines::{Lines, Sides};
@@ -46,11 +48,20 @@ pub fn page_input(seed: u64, index: u64) -> Vec<u8> {
     inputs::page_input(&mut Random::new(seed, index))
 }
 
-/// A ticket alone.
+/// A ticket alone, rarely one that goes on for long.
 pub fn ticket(seed: u64, index: u64) -> Vec<u8> {
     let random = &mut Random::new(seed, index);
     let (make, (width, height)) = (Make::any(random), draft::sides(random));
-    ticket_for(random, width, height, make)
+    let ticket = ticket_for(random, width, height, make);
+    if random.one_in(1000) {
+        return damage::lengthened(random, ticket);
+    }
+    ticket
+}
+
+/// A standard input for the number program.
+pub fn number_input(seed: u64, index: u64) -> Vec<u8> {
+    lists::number_input(&mut Random::new(seed, index))
 }
 
 /// A whole job at a random placement, with random old contents.

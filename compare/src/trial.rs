@@ -1,70 +1,132 @@
-//! Another page program, run once per generated input and held against this reading.
+//! What another program printed, held against what was due.
 
-use std::collections::BTreeMap;
+use std::fmt::Write as _;
 use std::io::{self, Write};
-use std::process::{Command, Stdio};
-use std::thread;
+use std::process::Command;
 
-use crate::generate;
-use crate::page_program::reply;
-use crate::refusal::BOX_OFF_PAGE;
+use crate::program::{self, Run, TIME_LIMIT};
 
 /// Differences told in full; the rest are only counted.
 const TOLD: u64 = 3;
+/// No right text is longer; of an endless one this much is told.
+const LONGEST_TOLD: usize = 1 << 20;
+
+/// One generated input, as it is told, and the text due for it.
+pub struct Due {
+    pub index: u64,
+    pub input: String,
+    pub text: String,
+}
 
 pub struct Trial {
+    pub seed: u64,
     pub inputs: u64,
+    /// What the inputs are, as the summary names them.
+    pub what: &'static str,
     pub differences: u64,
-    /// How often each kind of answer was due.
-    pub due: BTreeMap<String, u64>,
-}
-
-/// Runs the program over `count` inputs of a seed; tells the first differences on `out`.
-pub fn run(seed: u64, count: u64, program: &str, out: &mut impl Write) -> io::Result<Trial> {
-    let mut trial = Trial { inputs: 0, differences: 0, due: BTreeMap::new() };
-    for index in 0..count {
-        let input = generate::page_input(seed, index);
-        let due = reply(&input);
-        let printed = printed_by(program, &input)?;
-        trial.inputs += 1;
-        *trial.due.entry(due.kind()).or_default() += 1;
-        if printed != due.printed().into_bytes() {
-            trial.differences += 1;
-            if trial.differences <= TOLD {
-                let hex: String = input.iter().map(|byte| format!("{byte:02x}")).collect();
-                writeln!(out, "difference at seed {seed} index {index}\ninput {hex}")?;
-                writeln!(out, "due:\n{}", due.printed())?;
-                writeln!(out, "printed:\n{}", String::from_utf8_lossy(&printed))?;
-            }
-        }
-    }
-    Ok(trial)
-}
-
-/// What the program prints for this input. The input goes in from a thread of its own: a
-/// program that prints before it has read all would otherwise stand still together with us.
-pub fn printed_by(program: &str, input: &[u8]) -> io::Result<Vec<u8>> {
-    let mut child = Command::new(program).stdin(Stdio::piped()).stdout(Stdio::piped()).spawn()?;
-    let mut stdin = child.stdin.take().expect("standard input is piped");
-    let input = input.to_vec();
-    // A program may stop reading early; the broken pipe is no difference, its output decides.
-    let writer = thread::spawn(move || stdin.write_all(&input).is_ok());
-    let printed = child.wait_with_output()?.stdout;
-    let _all_was_read = writer.join();
-    Ok(printed)
+    /// Runs among them that ended by a signal or at the time limit.
+    pub bad_ends: u64,
+    /// How often each kind of answer was due, also those that never were.
+    pub tally: Vec<(String, u64)>,
 }
 
 impl Trial {
-    /// One line for all inputs, then one for each kind of answer, also those that never were due.
+    pub fn new(seed: u64, inputs: u64, what: &'static str) -> Trial {
+        Trial { seed, inputs, what, differences: 0, bad_ends: 0, tally: Vec::new() }
+    }
+
+    pub fn count(&mut self, kind: &str, times: u64) {
+        match self.tally.iter_mut().find(|(known, _)| known == kind) {
+            Some((_, sum)) => *sum += times,
+            None => self.tally.push((kind.to_string(), times)),
+        }
+    }
+
+    /// Kinds that the summary shall name even if they never are due.
+    pub fn expect(&mut self, kinds: &[&str]) {
+        kinds.iter().for_each(|kind| self.count(kind, 0));
+    }
+
+    pub fn expect_refusals(&mut self, last: u8) {
+        (1..=last).for_each(|number| self.count(&format!("refused {number}"), 0));
+    }
+
+    /// Runs a program once, for all that is due in this run; tells the first differences.
+    pub fn ask(
+        &mut self,
+        command: &mut Command,
+        input: &[u8],
+        dues: &[Due],
+        out: &mut dyn Write,
+    ) -> io::Result<()> {
+        let run = program::run(command, input, TIME_LIMIT)?;
+        self.hold(&run, dues, out)
+    }
+
+    /// Each text due is one line, but the last, which must be all the rest. A bad end is told at
+    /// the first line that is not whole, or at the last; what would come later is left out.
+    pub fn hold(&mut self, run: &Run, dues: &[Due], out: &mut dyn Write) -> io::Result<()> {
+        let parts = parts(&run.printed, dues.len());
+        let end = parts.iter().position(|part| !part.ends_with(b"\n")).unwrap_or(dues.len() - 1);
+        for (at, (due, part)) in dues.iter().zip(parts).enumerate() {
+            if run.flaw.is_some() && at == end {
+                return self.differ(due, part, Some(run), out);
+            } else if due.text.as_bytes() != part {
+                self.differ(due, part, None, out)?;
+            }
+        }
+        Ok(())
+    }
+
+    fn differ(
+        &mut self,
+        due: &Due,
+        part: &[u8],
+        bad_end: Option<&Run>,
+        out: &mut dyn Write,
+    ) -> io::Result<()> {
+        self.differences += 1;
+        self.bad_ends += u64::from(bad_end.is_some());
+        // The first bad ends are told even if many texts differed before.
+        if TOLD < if bad_end.is_some() { self.bad_ends } else { self.differences } {
+            return Ok(());
+        }
+        writeln!(out, "difference at seed {} index {}", self.seed, due.index)?;
+        writeln!(out, "input {}\ndue:\n{}", due.input, due.text)?;
+        let part = &part[..part.len().min(LONGEST_TOLD)];
+        writeln!(out, "printed:\n{}", String::from_utf8_lossy(part))?;
+        if let Some(Run { flaw: Some(flaw), input, .. }) = bad_end {
+            writeln!(out, "the program {flaw}; the run's whole input: {}", hex(input))?;
+        }
+        Ok(())
+    }
+
+    /// One line for all inputs, one for each kind of answer, and one for runs that ended badly.
     pub fn summary(&self) -> String {
-        let mut kinds = vec!["done".to_string()];
-        kinds.extend((1..=BOX_OFF_PAGE).map(|number| format!("refused {number}")));
-        kinds.extend(["bad input".to_string(), "too big".to_string()]);
-        let mut text = format!("{} inputs, {} differences\n", self.inputs, self.differences);
-        for kind in kinds {
-            let times = self.due.get(&kind).copied().unwrap_or(0);
+        let (inputs, what, differences) = (self.inputs, self.what, self.differences);
+        let mut text = format!("{inputs} {what}, {differences} differences\n");
+        for (kind, times) in &self.tally {
             text += &format!("{kind}: {times}\n");
         }
-        text
+        text + &format!("ended by a signal or at the time limit: {}\n", self.bad_ends)
     }
+}
+
+/// The first lines of a text, each with its newline, and as the last part all the rest.
+fn parts(mut text: &[u8], count: usize) -> Vec<&[u8]> {
+    let mut parts = Vec::new();
+    while parts.len() + 1 < count {
+        let end = text.iter().position(|&byte| byte == b'\n').map_or(text.len(), |at| at + 1);
+        let (line, rest) = text.split_at(end);
+        parts.push(line);
+        text = rest;
+    }
+    parts.push(text);
+    parts
+}
+
+pub fn hex(bytes: &[u8]) -> String {
+    let mut text = String::with_capacity(2 * bytes.len());
+    bytes.iter().for_each(|byte| write!(text, "{byte:02x}").expect("a text takes all"));
+    text
 }

@@ -2,8 +2,10 @@
 
 use std::collections::BTreeSet;
 
-use compare::generate;
+use compare::generate::{self, ticket_list};
 use compare::job::run;
+use compare::job_list::marks;
+use compare::number_list::kind;
 use compare::page_program::{reply, Reply};
 use compare::placement::scratch_needed;
 use compare::ticket::{read, shown, CLOSE, ERODE};
@@ -40,12 +42,20 @@ fn tickets_bring_every_refusal_and_every_number_of_boxes_at_the_limit() {
 }
 
 #[test]
-fn jobs_bring_every_refusal_and_write_only_what_they_may() {
-    let mut numbers = BTreeSet::new();
+fn jobs_bring_all_that_is_counted_and_write_only_what_they_may() {
+    let (mut numbers, mut missed) = (BTreeSet::new(), BTreeSet::new());
     for index in 0..2000 {
         let job = generate::job(3, index);
         let outcome = run(&job);
         numbers.insert(outcome.answer.refusal);
+        for (mark, holds) in marks(&job, &outcome) {
+            if index == 0 {
+                missed.insert(mark.clone());
+            }
+            if holds {
+                missed.remove(&mark);
+            }
+        }
         if outcome.answer.refusal != 0 {
             assert_eq!(outcome.answer.work, 0);
             assert_eq!((&outcome.output, &outcome.scratch), (&job.output, &job.scratch));
@@ -63,6 +73,40 @@ fn jobs_bring_every_refusal_and_write_only_what_they_may() {
         }
     }
     assert_eq!(numbers, (0..=14).collect());
+    assert_eq!(missed, BTreeSet::new());
+}
+
+#[test]
+fn ticket_lists_hold_each_ticket_once_and_are_full() {
+    let (mut first, mut ends) = (0, BTreeSet::new());
+    while first < 20_000 {
+        let list = ticket_list(5, first, 20_000);
+        for ticket in &list.tickets {
+            assert_eq!(*ticket, generate::ticket(5, first));
+            first += 1;
+        }
+        let next = generate::ticket(5, first).len() + 2;
+        assert!(list.bytes.len() <= 65536 && list.bytes.len() + next > 65536 || first == 20_000);
+        ends.insert((list.cut, list.bytes.len() == 65536));
+    }
+    assert!([(false, false), (true, false), (true, true)].iter().all(|end| ends.contains(end)));
+}
+
+#[test]
+fn number_inputs_are_mostly_good_and_bad_in_every_way() {
+    let (mut kinds, mut lengths, mut divisors) = (Vec::new(), BTreeSet::new(), 0);
+    for input in (0..2000).map(|index| generate::number_input(6, index)) {
+        kinds.push(kind(&input));
+        lengths.insert(input.len());
+        if kind(&input) == "numbers, connected" {
+            let [dx, dy] = [1, 3].map(|at| i16::from_be_bytes([input[at], input[at + 1]]));
+            divisors += u32::from(dx % 2 == 0 && dy % 2 == 0);
+        }
+    }
+    let times = |kind| kinds.iter().filter(|&&known| known == kind).count();
+    assert!(times("numbers, connected") > 500 && times("numbers, periodic") > 500);
+    assert!(times("bad input") > 200 && divisors > 20);
+    assert!([0, 10, 11, 12].iter().all(|length| lengths.contains(length)));
 }
 
 #[test]

@@ -6,6 +6,8 @@ use compare::lines::nearest_row;
 use compare::page_program::{reply, Reply};
 use compare::placement::{scratch_needed, Placement};
 use compare::ticket::{shown, HiddenBox, Ticket, CLOSE, CONNECTED, DILATE, ERODE, OPEN, PERIODIC};
+use compare::ticket_list::entry;
+use compare::{number_list, ticket_list};
 
 const ROW: [u8; 3] = [9, 1, 5];
 const NINE: [u8; 9] = [1, 2, 3, 4, 5, 6, 7, 8, 9];
@@ -200,6 +202,56 @@ fn placements_at_their_limits() {
     assert!(page.fits(20) && !page.fits(19));
     assert!(!Placement { offset: u64::MAX - 4, ..page }.fits(u64::MAX));
     assert_eq!((scratch_needed(2, 5), scratch_needed(5, 2)), (35, 35));
+}
+
+#[test]
+fn numbers_on_nine_pixels_and_bad_samples() {
+    let printed = |kind: u8, numbers: [i16; 5]| {
+        let numbers = numbers.map(i16::to_be_bytes).concat();
+        number_list::printed(&[&[kind], &numbers[..]].concat())
+    };
+    // The lines of case 12, and of case 11.
+    let case_12 = "0/2 0/1 1/0\n0/2 1/1 2/0\n0/0 1/1 2/0\n";
+    assert_eq!(printed(CONNECTED, [2, 1, 0, 3, 3]), case_12);
+    assert_eq!(printed(CONNECTED, [4, 2, 2, 3, 3]), case_12);
+    assert_eq!(printed(PERIODIC, [1, 1, 0, 3, 3]), "0/2 0/1 0/0\n0/1 1/1 1/0\n0/0 1/0 2/0\n");
+    assert_eq!(printed(CONNECTED, [255, 0, 254, 2, 1]), "0/1 1/0\n");
+    assert_eq!(printed(PERIODIC, [-1, 2, 0, 1, 4096]), "0/0\n".repeat(4096));
+    for (kind, numbers) in [
+        (0, [1, 0, 0, 1, 1]),
+        (3, [1, 0, 0, 1, 1]),
+        (CONNECTED, [0, 0, 0, 1, 1]),
+        (CONNECTED, [256, 1, 0, 1, 1]),
+        (PERIODIC, [-1, 1, 0, 1, 1]),
+        (PERIODIC, [2, 1, 1, 1, 1]),
+        (CONNECTED, [2, -1, 2, 1, 1]),
+        (CONNECTED, [2, 1, -1, 1, 1]),
+        (CONNECTED, [1, 0, 0, 0, 1]),
+        (CONNECTED, [1, 0, 0, 1, 0]),
+        (CONNECTED, [1, 0, 0, 241, 17]),
+        (CONNECTED, [1, 0, 0, -1, -1]),
+    ] {
+        assert_eq!(printed(kind, numbers), "bad input\n", "{kind} {numbers:?}");
+    }
+    let good = [1, 0, 1, 0, 0, 0, 0, 0, 1, 0, 1, 0];
+    let kept = (0..=12).filter(|&length| number_list::printed(&good[..length]) != "bad input\n");
+    assert_eq!(kept.collect::<Vec<usize>>(), [11]);
+}
+
+#[test]
+fn tickets_end_to_end() {
+    let (good, line) = (draft(OPEN, 2, 0).bytes(), "ticket 3 1 1 0 2 0 0 0\n");
+    let list = [entry(&good), entry(&[]), entry(&good)].concat();
+    for length in 0..=list.len() {
+        let (whole, inside) = match length {
+            0..32 => (String::new(), length > 0),
+            32..34 => (line.to_string(), length > 32),
+            34..66 => (format!("{line}refused 1 at 0\n"), length > 34),
+            _ => (format!("{line}refused 1 at 0\n{line}"), false),
+        };
+        let cut = if inside { "cut\n" } else { "" };
+        assert_eq!(ticket_list::printed(&list[..length]), whole + cut);
+    }
 }
 
 #[test]

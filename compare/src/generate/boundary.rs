@@ -20,7 +20,7 @@ pub fn ticket(random: &mut Random, mut draft: Draft, width: u16, height: u16) ->
     draft.bytes()
 }
 
-fn vector(random: &mut Random, draft: &mut Draft) {
+pub fn vector(random: &mut Random, draft: &mut Draft) {
     draft.line = random.pick(&[CONNECTED, PERIODIC]);
     let small = [(0, 0), (0, 1), (1, 0), (0, -1), (-1, 2), (2, -2), (2, 2), (-1, 1)];
     let large = [(255, 255), (256, 1), (1, 256), (255, -254), (-254, 255), (i16::MIN, 1)];
@@ -36,7 +36,7 @@ fn segment_and_origin(random: &mut Random, draft: &mut Draft) {
     draft.origin = random.pick(&[0, last, draft.length, past, 65535]);
 }
 
-fn phase(random: &mut Random, draft: &mut Draft) {
+pub fn phase(random: &mut Random, draft: &mut Draft) {
     let largest = draft.dx.unsigned_abs().max(draft.dy.unsigned_abs());
     let limit = if draft.line == CONNECTED { largest } else { 1 };
     draft.phase = random.pick(&[limit - 1, limit, limit + 1, 65535]);

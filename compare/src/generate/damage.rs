@@ -38,6 +38,16 @@ pub fn bytewise(random: &mut Random, mut bytes: Vec<u8>) -> Vec<u8> {
     bytes
 }
 
+/// No list has room for a ticket above 65,533 bytes. Boxes that go on are refused at the 65th.
+pub fn lengthened(random: &mut Random, mut ticket: Vec<u8>) -> Vec<u8> {
+    let length = random.pick(&[255, 256, 800, 801, 32767, 32768, 65533]);
+    let a_box = [7, 0, 8, 0, 0, 0, 0, 0, 1, 0, 1];
+    while ticket.len() < length {
+        ticket.push(a_box[ticket.len().wrapping_sub(30) % a_box.len()]);
+    }
+    ticket
+}
+
 fn fieldwise(random: &mut Random, mut fields: Vec<Vec<u8>>) -> Vec<u8> {
     let one = random.index(fields.len());
     let other = random.index(fields.len());

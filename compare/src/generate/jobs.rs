@@ -1,6 +1,6 @@
 //! Whole jobs at random placements, with none, one or two flaws.
 
-use super::{inputs, ticket_for, Make};
+use super::{inputs, ticket_for, Draft, Make};
 use crate::job::Job;
 use crate::placement::{scratch_needed, Placement, LONGEST_STRIDE};
 use crate::random::Random;
@@ -16,13 +16,14 @@ pub fn job(random: &mut Random) -> Job {
 
 /// A job whose pages fit; its ticket is mostly valid for it.
 fn fitting_job(random: &mut Random) -> Job {
-    let (width, height) = if random.one_in(100) {
-        random.pick(&[(8192, 1), (1, 8192), (8192, 2)])
+    let (ticket, width, height) = if random.one_in(60) {
+        long_ticket(random)
     } else {
-        (random.between(1, 12) as u16, random.between(1, 12) as u16)
+        let (width, height) = (random.between(1, 12) as u16, random.between(1, 12) as u16);
+        let any = Make::any(random);
+        let make = random.pick(&[Make::Valid, Make::Valid, Make::Valid, Make::Boundary, any]);
+        (ticket_for(random, width, height, make), width, height)
     };
-    let make = random.pick(&[Make::Valid, Make::Valid, Make::Valid, Make::Boundary]);
-    let ticket = ticket_for(random, width, height, make);
     let (width, height) = (u64::from(width), u64::from(height));
     let (source_page, source_length) = placed(random, width, height);
     let (output_page, output_length) = placed(random, width, height);
@@ -41,10 +42,31 @@ fn fitting_job(random: &mut Random) -> Job {
     }
 }
 
+/// A valid ticket for one to three rows or columns of up to 8192 pixels, often along them.
+fn long_ticket(random: &mut Random) -> (Vec<u8>, u16, u16) {
+    let any = random.between(1000, 8192) as u16;
+    let (long, few) = (random.pick(&[8192, 8191, any]), random.between(1, 3) as u16);
+    let across = random.one_in(2);
+    let (width, height) = if across { (long, few) } else { (few, long) };
+    let mut draft = Draft::valid(random, width, height);
+    if random.one_in(2) {
+        (draft.dx, draft.dy) = if across { (1, 0) } else { (0, 1) };
+        draft.phase = 0;
+    }
+    if few > 1 || random.one_in(2) {
+        // Each pixel walks up to L steps in this reading; all of L only on a single line.
+        draft.length = draft.length.min(500);
+        draft.origin = draft.origin.min(draft.length - 1);
+    }
+    (draft.bytes(), width, height)
+}
+
 /// A page with neighbours beside, above and below it in its tray, and the tray's length.
 fn placed(random: &mut Random, width: u64, height: u64) -> (Placement, usize) {
-    let left_of_it = random.pick(&[0, 0, 1, width.min(60)]);
-    let right_of_it = random.pick(&[0, 0, 1, 5, width.min(60)]);
+    // Up to three whole pages beside it where pages are small.
+    let pages = random.below(if width <= 12 { 4 } else { 1 }) * width;
+    let left_of_it = random.pick(&[0, 0, 1, width.min(60), pages]);
+    let right_of_it = random.pick(&[0, 0, 1, 5, width.min(60), pages]);
     let mut stride = left_of_it + width + right_of_it;
     // The longest stride only where few rows keep the tray small.
     if height <= 12 && random.one_in(50) {

@@ -2,3 +2,11 @@ pub mod Vector
 pub mod Line
 pub mod Number
 pub mod Worked
+pub mod Drift
+pub mod Laws
+pub mod Slope
+pub mod Integers
+pub mod Rows
+pub mod Normal
+pub mod Counting
+pub mod Numbering

@@ -1,0 +1,5 @@
+pub mod Bounds
+pub mod Found
+pub mod Making
+pub mod Reading
+pub mod Spots

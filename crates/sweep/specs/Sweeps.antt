@@ -1,0 +1,64 @@
+-- What each sweep makes, what it costs, and what it must find.
+-- Assumes nothing.
+use Prim.Native.Nat.{ℕ, zero, suc, _+_, _-_, _*_, _%_, _≤_, _<_}
+use mathlib.Core.Path.{_≡_}
+use mathlib.Core.List.{List}
+use lib.ListN.{length, getD}
+use Rattle.sweep.specs.Grid.{Page, startRow, lineName, number, spot, fromStartAt, toEndAt, windowedAt, rightwardAt, leftwardAt, resultingAt}
+use Rattle.sweep.specs.declared.Grid.{Grid}
+use Rattle.sweep.specs.declared.Sweep.{Sweep}
+use Rattle.sweep.specs.declared.Sweep.the-variants.{Backward, Forward, Result}
+
+-- the size of a page; page A stands at 0 in the scratch, page B behind it
+abbrev pub size : Grid → ℕ
+size g = g .height * g .width
+
+-- where a sweep writes: the backward one into B, the others into A
+unfoldable pub target : Sweep → Grid → ℕ
+target Backward g = size g
+target Forward g = 0
+target Result g = 0
+
+-- what it writes
+unfoldable pub newAt : Sweep → Grid → Page → Page
+newAt Backward g f = toEndAt g f
+newAt Forward g f = fromStartAt g f
+newAt Result g f = windowedAt g f
+
+-- what a pixel of it costs
+unfoldable pub costAt : Sweep → Grid → ℕ → ℕ → ℕ
+costAt Backward g R x = leftwardAt g R x
+costAt Forward g R x = rightwardAt g R x
+costAt Result g R x = resultingAt g R x
+
+-- a page stands in the scratch at a place, in its rows from lo up to hi
+unfoldable pub RowsHold : List ℕ → ℕ → Grid → Page → ℕ → ℕ → Type 0
+RowsHold bytes base g f lo hi = (R : ℕ) → lo ≤ R → R < hi → (x : ℕ) → x < g .width → getD bytes (base + (R * g .width + x)) 0 ≡ f R x
+
+-- what a sweep finds at a pixel (R, x), whatever page f the pass filters: at the pixel and in the rows it reads
+unfoldable pub Ready : Sweep → Grid → List ℕ → Page → ℕ → ℕ → Type 0
+Ready Backward g bytes f R x =
+    (getD bytes (R * g .width + x) 0 ≡ f R x) × RowsHold bytes (size g) g (toEndAt g f) (suc R) (g .height)
+Ready Forward g bytes f R x = (getD bytes (R * g .width + x) 0 ≡ f R x) × RowsHold bytes 0 g (fromStartAt g f) 0 R
+Ready Result g bytes f R x =
+    (getD bytes (R * g .width + x) 0 ≡ fromStartAt g f R x)
+    × RowsHold bytes 0 g (fromStartAt g f) (suc R) (g .height)
+    × RowsHold bytes (size g) g (toEndAt g f) 0 (g .height)
+
+-- the sum of n numbers from the k-th on
+unfoldable pub total : (ℕ → ℕ) → ℕ → ℕ → ℕ
+total cost k zero = 0
+total cost k (suc n) = cost k + total cost (suc k) n
+
+-- a part of the scratch is done, from lo up to hi, and the rest is as it was
+pub record Kept (lo hi : ℕ) (old new : List ℕ) : Type 0 where
+  pub same-length : length new ≡ length old
+  pub below : (k : ℕ) → k < lo → getD new k 0 ≡ getD old k 0
+  pub above : (k : ℕ) → hi ≤ k → getD new k 0 ≡ getD old k 0
+
+-- a result whose window begins in the line, a number of steps inside a block, with the running extreme from there to its end
+pub record Across (g : Grid) (bytes : List ℕ) (R t x inside rest : ℕ) : Type 0 where
+  pub reached : g .back ≤ number g R x
+  pub inside-is : inside ≡ (number g R x - g .back) % g .length
+  pub inside-some : 0 < inside
+  pub rest-is : rest ≡ getD bytes (size g + spot g (startRow g R) (lineName g R x) (t - g .back)) 0
