@@ -12,6 +12,9 @@ use lib.Dec.{eqb}
 use Rattle.geometry.specs.Vector.{shallow, steep, majorOf, minorOf}
 use Rattle.geometry.specs.Line.{floorDiv, D, shift, period, profile, place, landing, stepOf, majorAt}
 use Rattle.geometry.specs.Number.{within, inPage, count, behind, ahead}
+use Rattle.sweep.specs.Span.{chosen}
+use Rattle.sweep.specs.Block.{rightward, leftward, resulting}
+use Rattle.sweep.specs.Sweeps.{total}
 use Rattle.ticket.specs.Fields.{byteAt, numberAt, signed16, signedAt, operationIn, lineIn, dxIn, dyIn, lengthIn, originIn, phaseIn, boxHead, boxIn, boxesIn}
 use Rattle.ticket.specs.Judging.{_then_, judgeHead, judgeSize, judgeField, operationKnown, lineKnown, isPeriodic, divided, coprime, vectorAllowed, lengthAllowed, originAllowed, phaseAllowed, judgeOperation, judgeLine, judgeVector, judgeLength, judgeOrigin, judgePhase, judgeBox, judged}
 use Rattle.ticket.specs.Judging as Judging
@@ -19,8 +22,8 @@ use Rattle.ticket.specs.Reading.{boxPlaces, shown}
 use Rattle.tray.specs.Placement.{byteOf, pixelIn, sideAllowed, allowed, fits, scratchNeeded}
 use Rattle.tray.specs.Written.{columnOf, rowOf, inside, writtenFrom, written, cleared}
 use Rattle.filter.specs.Seen.{covers, hidden, boxesOf, lineOf, seen, turned, runsSteep}
-use Rattle.filter.specs.Filters.{chosen, joined, extreme, valueAt, onLine, inWindow, passAt, pass, eroded, dilationBack, dilated, opened, closed, filtered, orWhite, finished}
-use Rattle.filter.specs.Work.{rightward, leftward, resulting, charged, chargedAt, total, passWork, workOf}
+use Rattle.filter.specs.Filters.{joined, extreme, valueAt, onLine, inWindow, passAt, pass, eroded, dilationBack, dilated, opened, closed, filtered, orWhite, finished}
+use Rattle.filter.specs.Work.{charged, chargedAt, passWork, workOf}
 use Rattle.filter.specs.Answer.{numberOf, placeOf, workIn}
 use Rattle.filter.specs.Job.{sourcePage, outputPage, boxAllowed, unless, judgeBoxes, placed, answerUnder, answer, whenDone, lengths, output, scratchAfter}
 use Rattle.filter.specs.declared.Answer.{Answer}

@@ -2,24 +2,20 @@
 -- nothing where a pixel is absent (Seen); a filter makes such a page of such a page, so what is absent stays absent and "hidden
 -- pixels are absent in the second pass too".
 -- Assumes nothing.
-use Prim.Native.Nat.{ℕ, zero, suc, _+_, _-_, min, max}
+use Prim.Native.Nat.{ℕ, zero, suc, _+_, _-_}
 use mathlib.Core.Bool.{Bool, true, false, cond}
 use mathlib.Core.Option.{Option, none, some}
 use mathlib.Core.List.{List}
 use lib.Dec.{leb, eqb}
 use Rattle.geometry.specs.Line.{landing, stepOf, majorAt}
 use Rattle.geometry.specs.declared.Line.{Line}
+use Rattle.sweep.specs.Span.{chosen}
 use Rattle.ticket.specs.declared.Ticket.{Ticket}
 use Rattle.filter.specs.Seen.{boxesOf, lineOf, seen, turned, runsSteep}
 use Rattle.tray.specs.declared.Placement.{Placement}
 
 abbrev pub View : Type 0
 View = ℕ → ℕ → Option ℕ
-
--- of two values the lower, or the higher
-unfoldable pub chosen : Bool → ℕ → ℕ → ℕ
-chosen true x y = min x y
-chosen false x y = max x y
 
 -- an absent pixel does not count
 unfoldable pub joined : Bool → Option ℕ → Option ℕ → Option ℕ

@@ -62,3 +62,53 @@ pub record Across (g : Grid) (bytes : List ℕ) (R t x inside rest : ℕ) : Type
   pub inside-is : inside ≡ (number g R x - g .back) % g .length
   pub inside-some : 0 < inside
   pub rest-is : rest ≡ getD bytes (size g + spot g (startRow g R) (lineName g R x) (t - g .back)) 0
+
+-- what a sweep finds in a whole row
+abbrev pub RowReady : Sweep → Grid → List ℕ → Page → ℕ → Type 0
+RowReady sweep g bytes f R = (x : ℕ) → x < g .width → Ready sweep g bytes f R x
+
+-- a row swept up to column n: its new values, everything else as it was, and the comparisons counted
+pub record RowDone (sweep : Sweep) (g : Grid) (R : ℕ) (old new : List ℕ) (n count : ℕ) : Type 0 where
+  pub kept : Kept (target sweep g + R * g .width) (target sweep g + R * g .width + n) old new
+  pub made : (f : Page) → RowReady sweep g old f R → (x : ℕ) → x < n → getD new (target sweep g + R * g .width + x) 0 ≡ newAt sweep g f R x
+  pub counted : count ≡ total (costAt sweep g R) 0 n
+
+abbrev pub RowSwept : Sweep → Grid → ℕ → List ℕ → List ℕ → ℕ → Type 0
+RowSwept sweep g R old new count = RowDone sweep g R old new (g .width) count
+
+-- ---- whole pages
+
+-- what a sweep finds before it begins, whatever page f the pass filters
+unfoldable pub PageReady : Sweep → Grid → List ℕ → Page → Type 0
+PageReady Backward g bytes f = RowsHold bytes 0 g f 0 (g .height)
+PageReady Forward g bytes f = RowsHold bytes 0 g f 0 (g .height)
+PageReady Result g bytes f = RowsHold bytes 0 g (fromStartAt g f) 0 (g .height) × RowsHold bytes (size g) g (toEndAt g f) 0 (g .height)
+
+-- the comparisons of a row
+abbrev pub rowCost : Sweep → Grid → ℕ → ℕ
+rowCost sweep g R = total (costAt sweep g R) 0 (g .width)
+
+-- the rows from lo up to hi are swept, everything else is as it was, and the comparisons are counted
+pub record RowsDone (sweep : Sweep) (g : Grid) (lo hi : ℕ) (old new : List ℕ) (count : ℕ) : Type 0 where
+  pub kept : Kept (target sweep g + lo * g .width) (target sweep g + hi * g .width) old new
+  pub made : (f : Page) → PageReady sweep g old f → RowsHold new (target sweep g) g (newAt sweep g f) lo hi
+  pub counted : count ≡ total (rowCost sweep g) lo (hi - lo)
+
+abbrev pub Swept : Sweep → Grid → List ℕ → List ℕ → ℕ → Type 0
+Swept sweep g old new count = RowsDone sweep g 0 (g .height) old new count
+
+-- the sweeps that go down the rows
+abbrev pub GoesDown : Sweep → Type 0
+GoesDown Backward = ⊥
+GoesDown Forward = Unit {0}
+GoesDown Result = Unit {0}
+
+-- the comparisons of a sweep and of a pass
+abbrev pub sweepCost : Sweep → Grid → ℕ
+sweepCost sweep g = total (rowCost sweep g) 0 (g .height)
+
+-- a pass: page A holds the windows' extremes of what it held, page B is used, and nothing behind them is touched
+pub record Passed (g : Grid) (old new : List ℕ) (count : ℕ) : Type 0 where
+  pub kept : Kept 0 (size g + size g) old new
+  pub made : (f : Page) → RowsHold old 0 g f 0 (g .height) → RowsHold new 0 g (windowedAt g f) 0 (g .height)
+  pub counted : count ≡ sweepCost Backward g + sweepCost Forward g + sweepCost Result g

@@ -1,0 +1,110 @@
+// The sweeps, row by row. A sweep reads only what is not yet written or already final, so it writes in place.
+ghost use mathlib.Core.Path.{_≡_};
+ghost use Prim.Native.Nat.{_+_, _≤_, _<_};
+ghost use lib.ListN.{length};
+ghost use Rattle.sweep.specs.Grid.{Sized, Tabled};
+ghost use Rattle.sweep.specs.Sweeps.{RowSwept, Swept, GoesDown, Passed, size, target};
+use super::Grid;
+use super::Sweep;
+use super::pixel;
+
+// Where a sweep writes.
+fn target_of(sweep: Sweep, g: Grid) -> usize
+    requires { ⌜ Sized g ⌝ }
+    ensures { λ r. ⌜ r ≡ target sweep g ⌝ }
+{
+    match sweep {
+        Sweep::Backward => g.height * g.width,
+        Sweep::Forward => 0,
+        Sweep::Result => 0,
+    }
+}
+
+// One row of a sweep, and its comparisons.
+fn sweep_row(
+    sweep: Sweep,
+    g: Grid,
+    profile: &[usize],
+    reaches: &[usize],
+    bytes: &mut [u8],
+    row: usize,
+) -> usize
+    requires { ⌜ Sized g × Tabled g (now profile) (now reaches) × (row < g .height) × (size g + size g ≤ length (now bytes)) ⌝ }
+    ensures { λ r. ⌜ RowSwept sweep g row (now (bytes .entry)) (now (bytes .exit)) r ⌝ }
+{
+    let width = g.width;
+    let step = row / g.period;
+    let base = target_of(sweep, g) + row * width;
+    let mut count: usize = 0;
+    let mut x: usize = 0;
+    while x < width {
+        let made = pixel::made_at(sweep, g, profile, reaches, bytes, row, step, x);
+        bytes[base + x] = made.value;
+        count += made.count;
+        x += 1;
+    }
+    count
+}
+
+// A sweep down the rows.
+fn sweep_down(
+    sweep: Sweep,
+    g: Grid,
+    profile: &[usize],
+    reaches: &[usize],
+    bytes: &mut [u8],
+) -> usize
+    requires { ⌜ Sized g × Tabled g (now profile) (now reaches) × (size g + size g ≤ length (now bytes)) ⌝ }
+    requires { ⌜ GoesDown sweep ⌝ }
+    ensures { λ r. ⌜ Swept sweep g (now (bytes .entry)) (now (bytes .exit)) r ⌝ }
+{
+    let height = g.height;
+    let mut count: usize = 0;
+    let mut row: usize = 0;
+    while row < height {
+        count += sweep_row(sweep, g, profile, reaches, bytes, row);
+        row += 1;
+    }
+    count
+}
+
+// The backward sweep, up the rows: page B becomes the running extremes to the blocks' ends of page A.
+pub fn backward(g: Grid, profile: &[usize], reaches: &[usize], bytes: &mut [u8]) -> usize
+    requires { ⌜ Sized g × Tabled g (now profile) (now reaches) × (size g + size g ≤ length (now bytes)) ⌝ }
+    ensures { λ r. ⌜ Swept Sweep.Backward g (now (bytes .entry)) (now (bytes .exit)) r ⌝ }
+{
+    let mut count: usize = 0;
+    let mut left = g.height;
+    while 0 < left {
+        left -= 1;
+        count += sweep_row(Sweep::Backward, g, profile, reaches, bytes, left);
+    }
+    count
+}
+
+// The forward sweep: page A becomes its running extremes from the blocks' starts.
+pub fn forward(g: Grid, profile: &[usize], reaches: &[usize], bytes: &mut [u8]) -> usize
+    requires { ⌜ Sized g × Tabled g (now profile) (now reaches) × (size g + size g ≤ length (now bytes)) ⌝ }
+    ensures { λ r. ⌜ Swept Sweep.Forward g (now (bytes .entry)) (now (bytes .exit)) r ⌝ }
+{
+    sweep_down(Sweep::Forward, g, profile, reaches, bytes)
+}
+
+// The sweep of the results: page A becomes the extremes over the windows, of the running extremes in A and B.
+pub fn result(g: Grid, profile: &[usize], reaches: &[usize], bytes: &mut [u8]) -> usize
+    requires { ⌜ Sized g × Tabled g (now profile) (now reaches) × (size g + size g ≤ length (now bytes)) ⌝ }
+    ensures { λ r. ⌜ Swept Sweep.Result g (now (bytes .entry)) (now (bytes .exit)) r ⌝ }
+{
+    sweep_down(Sweep::Result, g, profile, reaches, bytes)
+}
+
+// One pass: page A becomes the extremes over the windows of its lines. It answers the comparisons.
+pub fn pass(g: Grid, profile: &[usize], reaches: &[usize], bytes: &mut [u8]) -> usize
+    requires { ⌜ Sized g × Tabled g (now profile) (now reaches) × (size g + size g ≤ length (now bytes)) ⌝ }
+    ensures { λ r. ⌜ Passed g (now (bytes .entry)) (now (bytes .exit)) r ⌝ }
+{
+    let first = backward(g, profile, reaches, bytes);
+    let second = forward(g, profile, reaches, bytes);
+    let third = result(g, profile, reaches, bytes);
+    first + second + third
+}
