@@ -18,7 +18,7 @@ use Rattle.sweep.specs.Sweeps.{total}
 use Rattle.ticket.specs.Fields.{byteAt, numberAt, signed16, signedAt, operationIn, lineIn, dxIn, dyIn, lengthIn, originIn, phaseIn, boxHead, boxIn, boxesIn}
 use Rattle.ticket.specs.Judging.{_then_, judgeHead, judgeSize, judgeField, operationKnown, lineKnown, isPeriodic, divided, coprime, vectorAllowed, lengthAllowed, originAllowed, phaseAllowed, judgeOperation, judgeLine, judgeVector, judgeLength, judgeOrigin, judgePhase, judgeBox, judged}
 use Rattle.ticket.specs.Judging as Judging
-use Rattle.ticket.specs.Reading.{boxPlaces, shown}
+use Rattle.ticket.specs.Reading.{boxPlace, boxPlaces, shown}
 use Rattle.tray.specs.Placement.{byteOf, pixelIn, sideAllowed, allowed, fits, scratchNeeded}
 use Rattle.tray.specs.Written.{columnOf, rowOf, inside, writtenFrom, written, cleared}
 use Rattle.filter.specs.Seen.{covers, hidden, boxesOf, lineOf, seen, turned, runsSteep}
@@ -241,5 +241,5 @@ abbrev everywhere : (Case → Setting → Outcome) → List (List Outcome)
 everywhere f = map (λ (c : Case). map (λ (s : Setting). f c s) (c .settings)) table
 
 worked-cases : everywhere outcome ≡ everywhere said
-unfolding shallow steep majorOf minorOf floorDiv D shift period profile place landing stepOf majorAt within inPage count behind ahead byteAt numberAt signed16 signedAt operationIn lineIn dxIn dyIn lengthIn originIn phaseIn boxHead boxIn boxesIn _then_ judgeHead judgeSize judgeField operationKnown lineKnown isPeriodic divided coprime vectorAllowed lengthAllowed originAllowed phaseAllowed judgeOperation judgeLine judgeVector judgeLength judgeOrigin judgePhase judgeBox judged Judging.unless Judging.judgeBoxes boxPlaces shown byteOf pixelIn sideAllowed allowed fits scratchNeeded columnOf rowOf inside writtenFrom written cleared covers hidden boxesOf lineOf seen turned runsSteep chosen joined extreme valueAt onLine inWindow passAt pass eroded dilationBack dilated opened closed filtered orWhite finished rightward leftward resulting charged chargedAt total passWork workOf numberOf placeOf workIn sourcePage outputPage boxAllowed unless judgeBoxes placed answerUnder answer whenDone output scratchAfter
+unfolding shallow steep majorOf minorOf floorDiv D shift period profile place landing stepOf majorAt within inPage count behind ahead byteAt numberAt signed16 signedAt operationIn lineIn dxIn dyIn lengthIn originIn phaseIn boxHead boxIn boxesIn _then_ judgeHead judgeSize judgeField operationKnown lineKnown isPeriodic divided coprime vectorAllowed lengthAllowed originAllowed phaseAllowed judgeOperation judgeLine judgeVector judgeLength judgeOrigin judgePhase judgeBox judged Judging.unless Judging.judgeBoxes boxPlace boxPlaces shown byteOf pixelIn sideAllowed allowed fits scratchNeeded columnOf rowOf inside writtenFrom written cleared covers hidden boxesOf lineOf seen turned runsSteep chosen joined extreme valueAt onLine inWindow passAt pass eroded dilationBack dilated opened closed filtered orWhite finished rightward leftward resulting charged chargedAt total passWork workOf numberOf placeOf workIn sourcePage outputPage boxAllowed unless judgeBoxes placed answerUnder answer whenDone output scratchAfter
 worked-cases = refl

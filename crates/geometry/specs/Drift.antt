@@ -4,7 +4,7 @@
 use Prim.Native.Nat.{ℕ, zero, suc, _+_, _-_, _≤_, _<_}
 use mathlib.Core.Bool.{Bool, true, false, not, cond}
 use mathlib.Core.Path.{_≡_}
-use mathlib.Core.Option.{Option, some}
+use mathlib.Core.Option.{some}
 use lib.Dec.{leb}
 use lib.IntN.{ℤ, pos, negℤ, natAbs}
 use lib.Signed.{nonNeg}
@@ -16,6 +16,13 @@ use Rattle.geometry.specs.declared.Line.{Line}
 pub record Sound (l : Line) : Type 0 where
   pub forward : 1 ≤ majorOf (l .dx) (l .dy)
   pub slope : natAbs (minorOf (l .dx) (l .dy)) ≤ majorOf (l .dx) (l .dy)
+
+-- a line that a ticket may order: "each component within -255 to 255", the phase below the larger of them, or 0
+pub record Allowed (l : Line) : Type 0 where
+  pub sound : Sound l
+  pub dx-near : natAbs (l .dx) ≤ 255
+  pub dy-near : natAbs (l .dy) ≤ 255
+  pub phase-near : l .phase < 255
 
 -- a line whose minor component is negative comes to smaller places as it goes on
 unfoldable pub falls : Line → Bool

@@ -4,28 +4,35 @@
 -- minor axis in normal form, H and W are the page's sides on the major and the minor axis.
 -- Assumes nothing.
 use mathlib.Core.Path.{_≡_, refl, sym, ap, _∙_}
-use mathlib.Core.Bool.{Bool, true, false, cond, _&&_, _||_, false≢true}
-use mathlib.Core.Option.{Option, some}
+use mathlib.Core.Bool.{Bool, true, false, cond, _&&_, _||_}
+use mathlib.Core.Option.{some}
 use mathlib.Core.Logic.{by-cases}
-use Prim.Native.Nat.{ℕ, zero, suc, _+_, _*_, _-_, _≤_, _<_}
+use Prim.Native.Nat.{ℕ, suc, _+_, _*_, _-_, _/_, _%_, _≤_, _<_}
+use native.Mathlib.Decide.{decLt}
 use native.Mathlib.Omega.{arith}
-use borrow.Author.Tests.{leb-true, leb-false, le-leb, lt-leb}
+use borrow.Author.Tests.{leb-true, leb-false}
 use lib.Dec.{ltb, leb}
-use lib.IntN.{ℤ, natAbs}
-use Rattle.geometry.specs.Vector.{shallow, steep, majorOf, minorOf}
+use lib.IntN.{natAbs}
+use Rattle.geometry.specs.Vector.{shallow, steep, majorOf}
 use Rattle.geometry.specs.Line.{period, profile, landing, stepOf, majorAt}
 use Rattle.geometry.specs.Number.{inPage, behind, ahead}
-use Rattle.geometry.specs.Drift.{Sound, Inside, Lands, falls, drift, signed, mirrored, reach}
+use Rattle.geometry.specs.Drift.{Sound, Allowed, Inside, Lands, falls, drift, signed, mirrored, reach}
 use Rattle.geometry.specs.Slope as slope
 use Rattle.geometry.specs.Rows as rows
 use Rattle.geometry.specs.Normal as normal
-use Rattle.geometry.specs.Counting as counting
 use Rattle.geometry.specs.Numbering as numbering
 use Rattle.geometry.specs.declared.Line.{Line}
 
 -- every vector that a ticket may have is sound
 pub sound : (l : Line) → shallow (l .dx) (l .dy) || steep (l .dx) (l .dy) ≡ true → Sound l
 sound l e = record { forward = slope.slope (l .dx) (l .dy) e .0; slope = slope.slope (l .dx) (l .dy) e .1 }
+
+-- every line that a ticket may order is allowed: a phase of 0 too is below the larger component
+pub allowed : (l : Line) → shallow (l .dx) (l .dy) || steep (l .dx) (l .dy) ≡ true → natAbs (l .dx) ≤ 255 → natAbs (l .dy) ≤ 255 → l .phase < majorOf (l .dx) (l .dy) → Allowed l
+allowed l e h k p = record { sound = sound l e; dx-near = h; dy-near = k; phase-near = omega (arith, slope.major-near (l .dx) (l .dy) 255 h k) }
+
+pub major-near : (l : Line) → Allowed l → majorOf (l .dx) (l .dy) ≤ 255
+major-near l h = slope.major-near (l .dx) (l .dy) 255 (h .dx-near) (h .dy-near)
 
 -- ---- the drift
 
@@ -52,6 +59,22 @@ drift-bound l h t = rows.drift-bound l h t
 pub period-forward : (l : Line) → Sound l → 1 ≤ period l
 period-forward l h = numbering.period-forward l h
 
+pub period-connected : (l : Line) → l .periodic ≡ false → period l ≡ 1
+unfolding period
+period-connected l e = ap (λ (b : Bool). cond b (majorOf (l .dx) (l .dy)) 1) e
+
+pub period-periodic : (l : Line) → l .periodic ≡ true → period l ≡ majorOf (l .dx) (l .dy)
+unfolding period
+period-periodic l e = ap (λ (b : Bool). cond b (majorOf (l .dx) (l .dy)) 1) e
+
+pub step-is : (l : Line) (M : ℕ) → stepOf l M ≡ M / period l
+unfolding stepOf
+step-is l M = refl
+
+pub major-is : (l : Line) (M s : ℕ) → majorAt l M s ≡ M % period l + s * period l
+unfolding majorAt
+major-is l M s = refl
+
 pub major-at-step : (l : Line) → Sound l → (M : ℕ) → majorAt l M (stepOf l M) ≡ M
 major-at-step l h M = numbering.major-at-step l h M
 
@@ -64,12 +87,37 @@ major-of-major l h M s r = numbering.major-of-major l h M s r
 -- k steps on are k periods on
 pub major-on : (l : Line) → Sound l → (M k : ℕ) → majorAt l M (stepOf l M + k) ≡ M + k * period l
 unfolding majorAt
-major-on l h M k = omega (arith, numbering.major-at-step l h M)
+major-on l h M k = omega (arith, major-at-step l h M)
+
+pub major-back : (l : Line) → Sound l → (M k : ℕ) → k ≤ stepOf l M → majorAt l M (stepOf l M - k) + k * period l ≡ M
+major-back l h M k i =
+    let back : ℕ = stepOf l M - k in
+    let whole : stepOf l M ≡ back + k = omega arith in
+    omega (arith, major-is l M back, major-is l M (stepOf l M), major-at-step l h M, ap (λ (s : ℕ). s * period l) whole)
 
 pub major-rises : (l : Line) → Sound l → (M : ℕ) {s r : ℕ} → s ≤ r → majorAt l M s ≤ majorAt l M r
 major-rises l h M k = numbering.major-rises l h M k
 
+pub major-beyond : (l : Line) → Sound l → (M s : ℕ) → s ≤ majorAt l M s
+major-beyond l h M s = numbering.major-beyond l h M s
+
+-- a pixel's step, and its line's drift there, are no further than the pixel is along the major axis
+pub step-low : (l : Line) → Sound l → (M : ℕ) → stepOf l M ≤ M
+step-low l h M = omega (arith, major-beyond l h M (stepOf l M), major-at-step l h M)
+
+pub drift-low : (l : Line) → Sound l → (M : ℕ) → drift l (stepOf l M) ≤ M
+unfolding majorAt
+drift-low l h M = omega (arith, drift-bound l h (stepOf l M), major-at-step l h M)
+
 -- ---- the normal form
+
+pub mirrored-falling : (W m : ℕ) → mirrored true W m ≡ W - 1 - m
+unfolding mirrored
+mirrored-falling W m = refl
+
+pub mirrored-rising : (W m : ℕ) → mirrored false W m ≡ m
+unfolding mirrored
+mirrored-rising W m = refl
 
 pub mirrored-below : (falling : Bool) (W m : ℕ) → m < W → mirrored falling W m < W
 mirrored-below falling W m k = numbering.mirrored-below falling W m k
@@ -122,6 +170,10 @@ ahead-in l h H W M m hM hm k i = numbering.within-steps l h H W M m hM hm (stepO
 pub ahead-out : (l : Line) → Sound l → (H W M m : ℕ) → M < H → m < W → (k : ℕ) → ahead l H W M m < k → inPage l H W M m (stepOf l M + k) ≡ false
 ahead-out l h H W M m hM hm k i = numbering.after-steps l h H W M m hM hm (stepOf l M + k) (omega arith)
 
+-- the last step in the page is as many steps on
+pub ahead-is : (l : Line) → Sound l → (H W M m : ℕ) → M < H → m < W → (s : ℕ) → stepOf l M ≤ s → inPage l H W M m s ≡ true → inPage l H W M m (suc s) ≡ false → s ≡ stepOf l M + ahead l H W M m
+ahead-is l h H W M m hM hm s k e f = numbering.ahead-is l h H W M m hM hm s k e f
+
 -- ---- one line, one number: "Each pixel lies on one line." Let the line through (M, m) land on m′ at its step s.
 
 -- from there each further step lands where it lands from m
@@ -142,6 +194,10 @@ module _ (l : Line) (h : Sound l) (H W M m : ℕ) (hM : M < H) (hm : m < W) (s m
 
   pub ahead-shifted : ahead l H W (majorAt l M s) m′ + s ≡ ahead l H W M m + stepOf l M
   ahead-shifted = numbering.shifted l h H W M m hM hm s m′ e there .1
+
+  -- and its line has as many pixels
+  pub same-count : behind l H W (majorAt l M s) m′ + ahead l H W (majorAt l M s) m′ ≡ behind l H W M m + ahead l H W M m
+  same-count = omega (arith, behind-shifted, ahead-shifted)
 
 -- ---- reach: the first step that has drifted v places
 
@@ -170,7 +226,26 @@ reach-more l v n k s far i j =
     let low : reach l v n ≤ s = reach-by l v n s far in
     sym (reach-is l v k (reach l v n) (omega arith) (reach-before l v n) (λ u. reach-at l v n (omega arith)))
 
+-- every line has drifted 0 places at once, and takes no longer for fewer places
+pub reach-zero : (l : Line) (n : ℕ) → reach l 0 (suc n) ≡ 0
+reach-zero l n = reach-is l 0 (suc n) 0 (omega arith) (λ s k. absurd (omega arith)) (λ k. omega arith)
+
+pub reach-rises : (l : Line) {v u : ℕ} (n : ℕ) → v ≤ u → reach l v n ≤ reach l u n
+reach-rises l {v} {u} n k =
+    by-cases
+    (decLt (reach l u n) n)
+    (λ i. reach-by l v n (reach l u n) (omega (arith, reach-at l u n i)))
+    (λ i. omega (arith, reach-low l v n))
+
 -- the number of a pixel from the entry of its line
 pub behind-reach : (l : Line) → Sound l → (H W M m : ℕ) → M < H → m < W
     → behind l H W M m ≡ stepOf l M - reach l (drift l (stepOf l M) - mirrored (falls l) W m) (suc (stepOf l M))
 behind-reach l h H W M m hM hm = numbering.behind-reach l h H W M m hM hm
+
+-- the same from a table of more steps
+pub behind-reach-of : (l : Line) → Sound l → (H W M m n : ℕ) → M < H → m < W → stepOf l M < n
+    → behind l H W M m ≡ stepOf l M - reach l (drift l (stepOf l M) - mirrored (falls l) W m) n
+behind-reach-of l h H W M m n hM hm k =
+    behind-reach l h H W M m hM hm
+    ∙ ap (λ (r : ℕ). stepOf l M - r)
+    (reach-more l (drift l (stepOf l M) - mirrored (falls l) W m) (suc (stepOf l M)) n (stepOf l M) (omega arith) (omega arith) k)

@@ -4,8 +4,10 @@ pub mod Number
 pub mod Worked
 pub mod Drift
 pub mod Laws
+pub mod Tables
 pub mod Slope
 pub mod Integers
+pub mod Floor
 pub mod Rows
 pub mod Normal
 pub mod Counting

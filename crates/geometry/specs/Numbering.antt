@@ -3,24 +3,24 @@
 use mathlib.Core.Path.{_≡_, refl, sym, ap, ap₂, _∙_}
 use mathlib.Core.Bool.{Bool, true, false, not, cond, _&&_, false≢true}
 use mathlib.Core.Logic.{by-cases}
-use mathlib.Core.Option.{Option, some}
-use Prim.Native.Nat.{ℕ, zero, suc, _+_, _*_, _-_, _/_, _%_, _≤_, _<_}
-use native.Mathlib.Nat.{le-trans, mod-lt, mod-add-div', mul-le-mul-left, mul-le-mul-right, add-mul-div-right, add-mul-mod-self-right, div-eq-of-lt, mod-eq-of-lt, mod-mod, zero-add}
+use mathlib.Core.Option.{some}
+use Prim.Native.Nat.{ℕ, suc, _+_, _*_, _-_, _%_, _≤_, _<_}
+use native.Mathlib.Nat.{mod-lt, mod-add-div', mul-le-mul-left, mul-le-mul-right, add-mul-div-right, add-mul-mod-self-right, div-eq-of-lt, mod-mod, zero-add}
 use native.Mathlib.Decide.{decLe, decLt}
 use native.Mathlib.Omega.{arith}
-use borrow.Author.Tests.{ltb-true, leb-true, leb-false, lt-ltb, le-ltb, le-leb, lt-leb, not-true, not-false}
+use borrow.Author.Tests.{leb-true, leb-false, le-leb, lt-leb, not-true, not-false}
 use lib.Dec.{ltb, leb}
 use Rattle.geometry.specs.Vector.{majorOf}
 use Rattle.geometry.specs.Line.{period, landing, stepOf, majorAt}
-use Rattle.geometry.specs.Number.{inPage, count, behind, ahead}
-use Rattle.geometry.specs.Drift.{Sound, Inside, Lands, falls, drift, mirrored, first, reach}
+use Rattle.geometry.specs.Number.{inPage, behind, ahead}
+use Rattle.geometry.specs.Drift.{Sound, Inside, falls, drift, mirrored, first, reach}
 use Rattle.geometry.specs.Rows.{drift-rises}
 use Rattle.geometry.specs.Normal.{in-page, inside, inside-in-page, lands, same-leb, and-true}
 use Rattle.geometry.specs.Counting.{First, first-is-first, first-unique, Run, count-run}
 use Rattle.geometry.specs.declared.Line.{Line}
 
 -- what is not true is false
-untrue : (b : Bool) → (b ≡ true → ⊥) → b ≡ false
+pub untrue : (b : Bool) → (b ≡ true → ⊥) → b ≡ false
 untrue true h = absurd (h refl)
 untrue false h = refl
 
@@ -218,6 +218,11 @@ module _ (l : Line) (h : Sound l) where
 
     pub after-steps : (s : ℕ) → stepOf l M + ahead l H W M m < s → inPage l H W M m s ≡ false
     after-steps s i = consecutive s ∙ ap₂ _&&_ (le-leb (stepOf l M) (s + behind l H W M m) (omega arith)) (lt-leb s (stepOf l M + ahead l H W M m) i)
+
+    pub ahead-is : (s : ℕ) → stepOf l M ≤ s → inPage l H W M m s ≡ true → inPage l H W M m (suc s) ≡ false → s ≡ stepOf l M + ahead l H W M m
+    ahead-is s k e f =
+        let here : s ≤ stepOf l M + ahead l H W M m = leb-true _ _ (and-true (leb (stepOf l M) (s + behind l H W M m)) (leb s (stepOf l M + ahead l H W M m)) (sym (consecutive s) ∙ e) .1) in
+        by-cases (decLe (suc s) (stepOf l M + ahead l H W M m)) (λ i. absurd (false≢true (sym f ∙ within-steps (suc s) (omega arith) i))) (λ i. omega arith)
 
     pub behind-low : behind l H W M m ≤ stepOf l M
     behind-low = omega (arith, entry-behind)

@@ -1,8 +1,8 @@
 -- A vector that is shallow or steep goes forward along its major axis, and no faster along the minor one.
 -- Assumes nothing.
-use mathlib.Core.Path.{_≡_, refl, sym, _∙_}
+use mathlib.Core.Path.{_≡_, refl}
 use mathlib.Core.Bool.{Bool, true, false, cond, _&&_, _||_, false≢true}
-use Prim.Native.Nat.{ℕ, zero, suc, _≤_, _<_}
+use Prim.Native.Nat.{ℕ, _≤_, _<_}
 use native.Mathlib.Omega.{arith}
 use borrow.Author.Tests.{ltb-true, leb-true}
 use lib.Dec.{leb, ltb}
@@ -34,3 +34,11 @@ slope dx dy e = go (steep dx dy) refl (shallow dx dy) refl e
     go true f a g i = unfold steep in beyond (natAbs dx) dy f
     go false f true g i = unfold shallow in at-least (natAbs dy) dx g
     go false f false g i = absurd (false≢true i)
+
+pub major-near : (dx dy : ℤ) (n : ℕ) → natAbs dx ≤ n → natAbs dy ≤ n → majorOf dx dy ≤ n
+unfolding majorOf
+major-near dx dy n h k = go (steep dx dy)
+  where
+    go : (b : Bool) → cond b (natAbs dy) (natAbs dx) ≤ n
+    go true = k
+    go false = h

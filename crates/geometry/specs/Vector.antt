@@ -1,6 +1,6 @@
 -- Document 01, 'The ticket': which way a vector (dx, dy) runs.
 -- Assumes nothing.
-use Prim.Native.Nat.{ℕ, suc}
+use Prim.Native.Nat.{ℕ}
 use mathlib.Core.Bool.{Bool, _&&_, cond}
 use lib.IntN.{ℤ, pos, natAbs}
 use lib.Signed.{leZ, ltZ}

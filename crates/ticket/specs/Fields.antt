@@ -1,13 +1,13 @@
 -- Document 01, 'The ticket': "Fields of a one-byte tag, a two-byte length and the value; numbers big-endian. Tags 1 to 6 stand
 -- once each in this order, then 0 to 64 fields of tag 7."
--- The first six fields have fixed lengths, so every head has a fixed place. A byte past the end reads as 0; the judging
--- (Judging) never asks for one.
+-- The first six fields have fixed lengths, so every head has a fixed place. A byte past the end reads as 0; no verdict
+-- (Judging) depends on one.
 -- Assumes nothing.
 use Prim.Native.Nat.{ℕ, _+_, _-_, _*_, _/_}
-use mathlib.Core.Bool.{Bool, cond}
+use mathlib.Core.Bool.{cond}
 use mathlib.Core.List.{List}
 use lib.ListN.{length, getD}
-use lib.Dec.{ltb, eqb}
+use lib.Dec.{ltb}
 use lib.IntN.{ℤ, pos, negsuc}
 use Rattle.ticket.specs.declared.HiddenBox.{HiddenBox}
 

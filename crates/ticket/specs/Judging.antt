@@ -38,6 +38,11 @@ unfoldable pub _then_ : Verdict → Verdict → Verdict
 Good then v = v
 Refused fault at then v = Refused fault at
 
+-- nothing is refused
+unfoldable pub isGood : Verdict → Bool
+isGood Good = true
+isGood (Refused fault at) = false
+
 -- | 1 | ticket ends in a field, or before one of tags 1 to 6 |, | 2 | a tag other than the one due |
 unfoldable pub judgeHead : List ℕ → ℕ → ℕ → Verdict
 judgeHead s at tag = unless (leb (at + headBytes) (length s)) Ends at then unless (eqb (byteAt s at) tag) WrongTag at

@@ -6,7 +6,7 @@ use mathlib.Core.Bool.{cond}
 use mathlib.Core.List.{List, [], _∷_}
 use lib.ListN.{replicate}
 use lib.Dec.{ltb}
-use lib.IntN.{ℤ, pos}
+use lib.IntN.{pos}
 use Rattle.ticket.specs.Fields.{operationIn, lineIn, dxIn, dyIn, lengthIn, originIn, phaseIn, boxIn, boxesIn}
 use Rattle.ticket.specs.Judging.{judged, mostBoxes}
 use Rattle.ticket.specs.declared.HiddenBox.{HiddenBox}
@@ -33,10 +33,14 @@ blank =
       boxes = replicate mostBoxes noBox;
     }
 
--- n box places from the k-th on, "zero past its boxes"
+-- the k-th box place, "zero past its boxes"
+unfoldable pub boxPlace : List ℕ → ℕ → HiddenBox
+boxPlace s k = cond (ltb k (boxesIn s)) (boxIn s k) noBox
+
+-- n box places from the k-th on
 unfoldable pub boxPlaces : List ℕ → ℕ → ℕ → List HiddenBox
 boxPlaces s k zero = []
-boxPlaces s k (suc n) = cond (ltb k (boxesIn s)) (boxIn s k) noBox ∷ boxPlaces s (suc k) n
+boxPlaces s k (suc n) = boxPlace s k ∷ boxPlaces s (suc k) n
 
 unfoldable pub shown : List ℕ → Ticket
 shown s =

@@ -2,7 +2,7 @@
 -- stand in 'The ticket'.
 -- Assumes nothing.
 use mathlib.Core.Path.{_≡_, refl}
-use Prim.Native.Nat.{ℕ, suc}
+use Prim.Native.Nat.{ℕ}
 use mathlib.Core.List.{List, [], _∷_, _++_, map}
 use Rattle.geometry.specs.Vector.{shallow, steep}
 use Rattle.ticket.specs.Fields.{byteAt, numberAt, signed16, signedAt, operationIn, lineIn, dxIn, dyIn, lengthIn, originIn, phaseIn, boxHead}

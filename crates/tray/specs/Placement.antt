@@ -8,9 +8,13 @@ use lib.ListN.{getD}
 use lib.Dec.{leb}
 use Rattle.tray.specs.declared.Placement.{Placement}
 
+-- where a row starts: the one place that says in which order the rows stand
+abbrev pub rowStart : Placement → ℕ → ℕ
+rowStart p r = p .offset + r * p .stride
+
 -- "The pixel at column c, row r is byte offset + r·stride + c."
 unfoldable pub byteOf : Placement → ℕ → ℕ → ℕ
-byteOf p c r = p .offset + r * p .stride + c
+byteOf p c r = rowStart p r + c
 
 unfoldable pub pixelIn : List ℕ → Placement → ℕ → ℕ → ℕ
 pixelIn tray p c r = getD tray (byteOf p c r) 0

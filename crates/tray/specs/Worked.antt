@@ -1,4 +1,5 @@
--- Two rows of three pixels in the middle of a tray: offset 2, stride 4.
+-- Two rows of three pixels in the middle of a tray: offset 2, stride 4. Their places on the compact page, and a box over the last two pixels
+-- of the second row.
 -- Assumes nothing.
 use mathlib.Core.Path.{_≡_, refl}
 use Prim.Native.Nat.{ℕ, _+_, _*_}
@@ -6,6 +7,18 @@ use mathlib.Core.Bool.{Bool, true, false}
 use mathlib.Core.List.{List, [], _∷_, map}
 use Rattle.tray.specs.Placement.{byteOf, allowed, sideAllowed, fits, scratchNeeded}
 use Rattle.tray.specs.Written.{columnOf, rowOf, inside, writtenFrom, written, cleared}
+use Rattle.tray.specs.Turned.{
+  mirrored,
+  downOf,
+  acrossOf,
+  compactColumn,
+  compactAt,
+  Rectangle,
+  boxed,
+  mirroredFrom,
+  mirroredTo,
+  turnedBox,
+}
 use Rattle.tray.specs.declared.Placement.{Placement}
 
 abbrev middle : Placement
@@ -46,3 +59,38 @@ scratch = refl
 used-is-zero : cleared 3 (7 ∷ 7 ∷ 7 ∷ 7 ∷ []) ≡ 0 ∷ 0 ∷ 0 ∷ 7 ∷ []
 unfolding cleared
 used-is-zero = refl
+
+-- columns 0 to 2 of row 0, then of row 1: as they are, mirrored, transposed, and transposed with the rows mirrored
+places : Bool → Bool → List ℕ
+places steep falls =
+    compactAt steep falls 3 2 0 0
+    ∷ compactAt steep falls 3 2 1 0
+    ∷ compactAt steep falls 3 2 2 0
+    ∷ compactAt steep falls 3 2 0 1
+    ∷ compactAt steep falls 3 2 1 1
+    ∷ compactAt steep falls 3 2 2 1
+    ∷ []
+
+steep-places : places true false ≡ 0 ∷ 1 ∷ 2 ∷ 3 ∷ 4 ∷ 5 ∷ []
+unfolding places compactAt compactColumn mirrored downOf acrossOf
+steep-places = refl
+
+steep-falling-places : places true true ≡ 2 ∷ 1 ∷ 0 ∷ 5 ∷ 4 ∷ 3 ∷ []
+unfolding places compactAt compactColumn mirrored downOf acrossOf
+steep-falling-places = refl
+
+shallow-places : places false false ≡ 0 ∷ 2 ∷ 4 ∷ 1 ∷ 3 ∷ 5 ∷ []
+unfolding places compactAt compactColumn mirrored downOf acrossOf
+shallow-places = refl
+
+shallow-falling-places : places false true ≡ 1 ∷ 3 ∷ 5 ∷ 0 ∷ 2 ∷ 4 ∷ []
+unfolding places compactAt compactColumn mirrored downOf acrossOf
+shallow-falling-places = refl
+
+box-steep-falling : turnedBox true true 3 2 (boxed 1 1 2 1) ≡ record { top = 1; bottom = 2; left = 0; right = 2 }
+unfolding turnedBox boxed mirroredFrom mirroredTo downOf acrossOf
+box-steep-falling = refl
+
+box-shallow-falling : turnedBox false true 3 2 (boxed 1 1 2 1) ≡ record { top = 1; bottom = 3; left = 0; right = 1 }
+unfolding turnedBox boxed mirroredFrom mirroredTo downOf acrossOf
+box-shallow-falling = refl

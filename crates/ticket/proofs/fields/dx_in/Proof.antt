@@ -1,0 +1,16 @@
+-- `ticket::fields::dx_in` meets its contract. Assumes nothing.
+use borrow.Author.Needs.{needs}
+use mathlib.Core.Path.{ap, _∙_}
+use Rattle.ticket.specs.Fields.{signed16, dxIn, signedAt}
+use Rattle.ticket.proofs.Signs.{kept}
+use Rattle.ticket.proofs.fields.dx_in.Statement.{statement}
+use Rattle.ticket.proofs.fields.dx_in.Tie as tie
+
+pub dx-in-spec : {M : Type 1} → statement M
+unfolding dxIn signedAt
+dx-in-spec =
+    tie.close
+    (tie.spec
+    (λ c. search needs)
+    (λ c. search needs)
+    (λ c. kept (c .signed .ensures ∙ ap signed16 (c .before .dx-bits .ensures)) (c .signed .ok)))

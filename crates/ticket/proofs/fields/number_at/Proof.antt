@@ -1,0 +1,19 @@
+-- `ticket::fields::number_at` meets its contract. Assumes nothing.
+use borrow.Author.Needs.{needs}
+use Rattle.ticket.specs.Fields.{numberAt}
+use Rattle.ticket.proofs.fields.number_at.Statement.{statement}
+use Rattle.ticket.proofs.fields.number_at.Tie as tie
+
+pub number-at-spec : {M : Type 1} → statement M
+unfolding numberAt
+number-at-spec =
+    tie.close
+    (tie.spec
+    (λ c. search needs)
+    (λ c. search needs)
+    (λ c. search needs)
+    (λ c. search needs)
+    (λ c. search needs)
+    (λ c. search needs)
+    (λ c. search needs)
+    (λ c. search needs))

@@ -1,0 +1,28 @@
+-- `ticket::judge::judge_line` meets its contract. Assumes nothing.
+use borrow.Author.Needs.{needs}
+use mathlib.Core.Path.{ap, _∙_}
+use Rattle.ticket.specs.Judging.{judgeLine, lineKnown}
+use Rattle.ticket.specs.Fields.{lineHead}
+use Rattle.ticket.specs.declared.Fault.the-variants.{Unknown}
+use Rattle.ticket.proofs.Chains.{field-judged}
+use Rattle.ticket.proofs.judge.judge_line.Statement.{statement}
+use Rattle.ticket.proofs.judge.judge_line.Tie as tie
+
+returns : tie.Need-returns
+unfolding judgeLine
+returns c =
+    let w = c .before in
+    let t = w .before .before in
+    field-judged Unknown lineHead (c .first-fault .ensures) (w .before .judge-field .ensures) (w .refuse-unless .ensures)
+    (t .line-known .ensures ∙ ap lineKnown (t .before .line-in .ensures))
+
+pub judge-line-spec : {M : Type 1} → statement M
+judge-line-spec =
+    tie.close
+    (tie.spec
+    (λ c. search needs)
+    (λ c. search needs)
+    (λ c. search needs)
+    (λ c. search needs)
+    (λ c. search needs)
+    returns)

@@ -1,0 +1,12 @@
+-- `ticket::vector::is_coprime` meets its contract. Assumes nothing.
+use borrow.Author.Needs.{needs}
+use Rattle.ticket.specs.Judging.{coprime}
+use Rattle.ticket.proofs.vector.is_coprime.Statement.{statement}
+use Rattle.ticket.proofs.vector.is_coprime.Tie as tie
+
+returns : tie.Need-returns
+unfolding coprime
+returns c = cc
+
+pub is-coprime-spec : {M : Type 1} → statement M
+is-coprime-spec = tie.close (tie.spec (λ c. search needs) (λ c. search needs) (λ c. search needs) returns)

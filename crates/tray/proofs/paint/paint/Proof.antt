@@ -1,0 +1,98 @@
+-- `tray::paint::paint` meets its contract. The invariant: the rows from top to just above r are painted, and nothing else. Assumes nothing.
+use mathlib.Core.Path.{_≡_, sym, _∙_, ap, subst}
+use mathlib.Core.List.{List}
+use Prim.Native.Nat.{ℕ, _+_, _-_, _*_, _≤_, _<_}
+use native.Mathlib.Nat.{mul-le-mul-right}
+use native.Mathlib.Omega.{arith}
+use borrow.Author.Needs.{needs}
+use borrow.Rule.Slice.PartMut.{midOf, putMid}
+use lib.ListN.{length, getD, replicate, length-replicate, getD-replicate}
+use Rattle.tray.specs.Laws.{Painted}
+use Rattle.tray.proofs.Lent.{part-length}
+use Rattle.tray.proofs.Painting.{rows, painted-none, painted-more}
+use Rattle.tray.proofs.paint.paint.Statement.{statement}
+use Rattle.tray.proofs.paint.paint.Tie as tie
+
+abbrev Inv-loop : tie.InvT-loop
+Inv-loop page₀ w top bottom left right value r₀ page r = (top ≤ r) × (r ≤ bottom) × Painted w (rows top left right r) value page₀ page
+
+abbrev μ-loop : tie.MeasureT-loop
+μ-loop page₀ w top bottom left right value r₀ page r = bottom - r
+
+loop-holds : tie.Need-loop-holds Inv-loop μ-loop
+loop-holds c = (search needs, search needs, painted-none _ _ _ _ _ _)
+
+-- the row lies in the page
+room : (c : tie.In-loop Inv-loop μ-loop) → (c .before .loop .r + 1) * c .before .before .before .args .w ≤ length (c .before .loop .page)
+room c =
+    let s = c .before .before .before in
+    let next : c .before .loop .r + 1 ≤ s .args .bottom = omega (arith, c .loop-test .taken) in
+    let all : s .args .bottom * s .args .w ≤ length (s .args .page .now) = s .pre .3 in
+    omega (arith, mul-le-mul-right (s .args .w) next, c .before .loop .inv .2 .size)
+
+mul-from : tie.Need-mul-from Inv-loop μ-loop
+mul-from c = omega (arith, room c, c .before .before .before .good .0 .0)
+
+add-from : tie.Need-add-from Inv-loop μ-loop
+add-from c = omega (arith, room c)
+
+mul-to : tie.Need-mul-to Inv-loop μ-loop
+mul-to c = omega (arith, room c)
+
+add-to : tie.Need-add-to Inv-loop μ-loop
+add-to c = omega (arith, room c)
+
+part-fill-end : tie.Need-part-fill-end Inv-loop μ-loop
+part-fill-end c = omega (arith, room c)
+
+loop-again : tie.Need-loop-again Inv-loop μ-loop
+loop-again c =
+    let turn = c .before .before .before .before in
+    let s = turn .before .before .before in
+    let a = s .args in
+    let l = turn .before .loop in
+    let last = c .before .before .fill .last .0 in
+    let at = l .r * a .w + a .left in
+    let n = a .right - a .left in
+    let in-row = room turn in
+    let wide : l .r * a .w + a .right - at ≡ n = omega arith in
+    let fits : at + n ≤ length (l .page) = omega (arith, s .pre .1, s .pre .2) in
+    let filled : last ≡ replicate n (a .value) =
+    c .before .before .fill .ensures
+    ∙ ap (λ (k : ℕ). replicate (length (midOf at k (l .page))) (a .value)) wide
+    ∙ ap (λ (k : ℕ). replicate k (a .value)) (part-length at n (l .page) fits) in
+    let long : length last ≡ n = ap length filled ∙ length-replicate n (a .value) in
+    let all : (k : ℕ) → k < n → getD last k 0 ≡ a .value = λ k k-in. ap (λ (ys : List ℕ). getD ys k 0) filled ∙ getD-replicate n k (a .value) 0 k-in in (
+      omega arith,
+      omega (arith, turn .loop-test .taken),
+      subst (λ (k : ℕ). Painted (a .w) (rows (a .top) (a .left) (a .right) (l .r + 1)) (a .value) (a .page .now) (putMid at k (l .page) last)) (sym wide)
+          (painted-more (a .w) (a .top) (a .left) (a .right) (a .value) (l .r) (a .page .now) (l .page) last (l .inv .0) (s .pre .1) (s .pre .2) in-row long all (l .inv .2)),
+    )
+
+returns : tie.Need-returns Inv-loop μ-loop
+returns c =
+    let a = c .before .before .before .args in
+    let l = c .before .loop in
+    let done : l .r ≡ a .bottom = omega (arith, c .loop-test .left) in
+    subst (λ (k : ℕ). Painted (a .w) (rows (a .top) (a .left) (a .right) k) (a .value) (a .page .now) (l .page)) done (l .inv .2)
+
+pub paint-spec : {M : Type 1} → statement M
+paint-spec =
+    tie.close
+    (tie.spec
+    Inv-loop
+    μ-loop
+    loop-holds
+    mul-from
+    add-from
+    mul-to
+    add-to
+    (λ c. search needs)
+    (λ c. search needs)
+    part-fill-end
+    (λ c κs. search needs)
+    (λ c. search needs)
+    (λ c. search needs)
+    loop-again
+    (λ c. search needs)
+    returns)

@@ -1,0 +1,79 @@
+-- What is promised of pages that are copied, transposed, taken in and given out.
+-- Assumes nothing.
+use mathlib.Core.Path.{_≡_}
+use mathlib.Core.Bool.{Bool}
+use mathlib.Core.List.{List}
+use Prim.Native.Nat.{ℕ, _+_, _*_, _≤_, _<_}
+use lib.ListN.{length, getD}
+use Rattle.tray.specs.declared.Placement.{Placement}
+use Rattle.tray.specs.declared.turn.Turn.{Turn}
+use Rattle.tray.specs.Placement.{pixelIn}
+use Rattle.tray.specs.Turned.{mirrored, compactAt}
+use Rattle.tray.specs.Laws.{Placed, Moved, Right}
+
+-- the pixel that a copy of the page has at column c, row r: the columns are mirrored where the line falls
+unfoldable pub copiedPixel : List ℕ → Placement → Bool → ℕ → ℕ → ℕ
+copiedPixel tray p falls c r = pixelIn tray p (mirrored falls (p .width) c) r
+
+-- the pixel of the source's column a that goes to the target's column b
+unfoldable pub sourcePixel : List ℕ → Turn → ℕ → ℕ → ℕ
+sourcePixel tray t a b = pixelIn tray (t .source) a (mirrored (t .readup) (t .source .height) b)
+
+-- the pixel that the transposed page has at column c, row r
+unfoldable pub turnedPixel : List ℕ → Turn → ℕ → ℕ → ℕ
+turnedPixel tray t c r = sourcePixel tray t (mirrored (t .writeup) (t .target .height) r) c
+
+-- two pages that can be copied, row to row ..
+pub record Alike (p q : Placement) : Type 0 where
+  pub across : q .width ≡ p .width
+  pub down : q .height ≡ p .height
+
+-- .. and two that can be transposed, in trays of n and m bytes
+pub record Turnable (t : Turn) (n m : ℕ) : Type 0 where
+  pub from-tray : Placed (t .source) n
+  pub to-tray : Placed (t .target) m
+  pub across : t .target .width ≡ t .source .height
+  pub down : t .target .height ≡ t .source .width
+
+-- in a row the columns from b to just before e hold a value each, and the others are as they were
+pub record Stored (value : ℕ → ℕ) (b e : ℕ) (before after : List ℕ) : Type 0 where
+  pub size : length after ≡ length before
+  pub each : (k : ℕ) → b ≤ k → k < e → getD after k 0 ≡ value k
+  pub below : (k : ℕ) → k < b → getD after k 0 ≡ getD before k 0
+  pub above : (k : ℕ) → e ≤ k → getD after k 0 ≡ getD before k 0
+
+-- a tile holds the source's columns from a on of the rows that go to the target's columns from b on; n rows of it, with 16 all
+pub record Taken (n : ℕ) (tray : List ℕ) (t : Turn) (a b : ℕ) (tile : List ℕ) : Type 0 where
+  pub size : length tile ≡ 256
+  pub each : (k : ℕ) → k < n → (i : ℕ) → i < 16 → getD tile (16 * k + i) 0 ≡ sourcePixel tray t (a + i) (b + k)
+
+-- of the target page, the columns from b to just before f are right in the rows that the source's columns from a to just before e become
+pub record Part (page : ℕ → ℕ → ℕ) (t : Turn) (a e b f : ℕ) (before after : List ℕ) : Type 0 where
+  pub moved : Moved (t .target) page before after
+  pub right : (i : ℕ) → a ≤ i → i < e → (k : ℕ) → b ≤ k → k < f → Right (t .target) page after k (mirrored (t .writeup) (t .target .height) i)
+
+-- Sixteen bytes of a tile, or n rows of it, were written to the target: whatever page they hold pixels of, these pixels of it are right.
+pub record PutRow (tile : List ℕ) (at : ℕ) (t : Turn) (a b : ℕ) (before after : List ℕ) : Type 0 where
+  pub size : length after ≡ length before
+  pub part :
+      (page : ℕ → ℕ → ℕ) → ((k : ℕ) → k < 16 → getD tile (at + k) 0 ≡ page (b + k) (mirrored (t .writeup) (t .target .height) a))
+      → Part page t a (a + 1) b (b + 16) before after
+
+pub record PutRows (n : ℕ) (tile : List ℕ) (t : Turn) (a b : ℕ) (before after : List ℕ) : Type 0 where
+  pub size : length after ≡ length before
+  pub part :
+      (page : ℕ → ℕ → ℕ)
+      → ((i : ℕ) → i < n → (k : ℕ) → k < 16 → getD tile (16 * i + k) 0 ≡ page (b + k) (mirrored (t .writeup) (t .target .height) (a + i)))
+      → Part page t a (a + n) b (b + 16) before after
+
+-- a source page laid out compactly at the start of a tray, and nothing after it changed
+pub record PageIn (source : List ℕ) (p : Placement) (steep falls : Bool) (before after : List ℕ) : Type 0 where
+  pub size : length after ≡ length before
+  pub pixel :
+      (r : ℕ) → r < p .height → (c : ℕ) → c < p .width
+      → getD after (compactAt steep falls (p .width) (p .height) c r) 0 ≡ pixelIn source p c r
+  pub rest : (i : ℕ) → p .width * p .height ≤ i → getD after i 0 ≡ getD before i 0
+
+-- the pixel that a page given out has at column c, row r
+unfoldable pub compactPixel : List ℕ → Bool → Bool → Placement → ℕ → ℕ → ℕ
+compactPixel page steep falls p c r = getD page (compactAt steep falls (p .width) (p .height) c r) 0

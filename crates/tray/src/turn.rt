@@ -1,0 +1,236 @@
+// A page taken in and laid out compactly for the filter, and given out again: row by row where its lines are steep, transposed where they
+// are shallow, and mirrored where they fall. Every row is read as a part of its tray, and written through a part that is lent.
+use crate::Placement;
+use crate::place::row_start;
+use crate::row::fill_row;
+use crate::row::row;
+use crate::tile::SIDE;
+use crate::tile::copy_side;
+use crate::tile::transpose;
+ghost use mathlib.Core.Path.{_≡_};
+ghost use Prim.Native.Nat.{ℕ, _+_, _*_, _≤_, _<_};
+ghost use lib.ListN.{length, getD};
+ghost use Rattle.tray.specs.Written.{written};
+ghost use Rattle.tray.specs.Turned.{mirrored, compactOf};
+ghost use Rattle.tray.specs.Laws.{Placed};
+ghost use Rattle.tray.specs.Pages.{Alike, Turnable, Stored, Taken, Part, PutRow, PutRows, PageIn, copiedPixel, sourcePixel, turnedPixel, compactPixel};
+
+// A page and its transposed page. Where readup is true the source's rows are taken from the last one up, and where writeup is true the
+// target's rows are filled from the last one up.
+pub struct Turn {
+    pub source: Placement,
+    pub target: Placement,
+    pub readup: bool,
+    pub writeup: bool,
+}
+
+fn mirror(falls: bool, n: usize, m: usize) -> usize
+    requires { ⌜ m < n ⌝ }
+    ensures { λ r. ⌜ r ≡ mirrored falls n m ⌝ }
+{
+    if falls {
+        return n - 1 - m;
+    }
+    m
+}
+
+// Each row of one page is filled with the same row of the other.
+fn copy_rows(from: &[u8], p: Placement, falls: bool, to: &mut [u8], q: Placement)
+    requires { ⌜ Placed p (length (now from)) ⌝ }
+    requires { ⌜ Placed q (length (now to)) ⌝ }
+    requires { ⌜ Alike p q ⌝ }
+    ensures { λ _. ⌜ now (to .exit) ≡ written q (copiedPixel (now (from .entry)) p falls) (now (to .entry)) ⌝ }
+{
+    let mut r: usize = 0;
+    while r < q.height {
+        let line = row(from, p, r);
+        let at = row_start(q, r);
+        let end = at + q.width;
+        fill_row(line, falls, &mut to[at..end]);
+        r += 1;
+    }
+}
+
+// A column of the source is gathered into the columns from b to just before e of a row of the target.
+fn gather(from: &[u8], t: Turn, a: usize, part: &mut [u8], b: usize, e: usize)
+    requires { ⌜ Placed (t .source) (length (now from)) ⌝ }
+    requires { ⌜ (a < t .source .width) × (b ≤ e) × (e ≤ t .source .height) × (e ≤ length (now part)) ⌝ }
+    ensures { λ _. ⌜ Stored (sourcePixel (now (from .entry)) t a) b e (now (part .entry)) (now (part .exit)) ⌝ }
+{
+    let p = t.source;
+    let mut k = b;
+    while k < e {
+        let line = row(from, p, mirror(t.readup, p.height, k));
+        part[k] = line[a];
+        k += 1;
+    }
+}
+
+// A column of the source fills a part of its row of the target, a byte at a time.
+fn turn_row(from: &[u8], t: Turn, to: &mut [u8], a: usize, b: usize, e: usize)
+    requires { ⌜ Turnable t (length (now from)) (length (now to)) ⌝ }
+    requires { ⌜ (a < t .target .height) × (b ≤ e) × (e ≤ t .target .width) ⌝ }
+    ensures { λ _. ⌜ Part (turnedPixel (now (from .entry)) t) t a (a + 1) b e (now (to .entry)) (now (to .exit)) ⌝ }
+{
+    let q = t.target;
+    let at = row_start(q, mirror(t.writeup, q.height, a));
+    let end = at + q.width;
+    gather(from, t, a, &mut to[at..end], b, e);
+}
+
+// The same for the columns from a to just before e, and the target's columns from b on: what no tile covers.
+fn turn_rows(from: &[u8], t: Turn, to: &mut [u8], a: usize, e: usize, b: usize)
+    requires { ⌜ Turnable t (length (now from)) (length (now to)) ⌝ }
+    requires { ⌜ (a ≤ e) × (e ≤ t .target .height) × (b ≤ t .target .width) ⌝ }
+    ensures { λ _. ⌜ Part (turnedPixel (now (from .entry)) t) t a e b (t .target .width) (now (to .entry)) (now (to .exit)) ⌝ }
+{
+    let width = t.target.width;
+    let mut i = a;
+    while i < e {
+        turn_row(from, t, to, i, b, width);
+        i += 1;
+    }
+}
+
+// Sixteen rows of the source, sixteen columns of each, are read into a tile.
+fn take_tile(from: &[u8], t: Turn, a: usize, b: usize, tile: &mut [u8])
+    requires { ⌜ Placed (t .source) (length (now from)) ⌝ }
+    requires { ⌜ (a + 16 ≤ t .source .width) × (b + 16 ≤ t .source .height) × (length (now tile) ≡ 256) ⌝ }
+    ensures { λ _. ⌜ Taken 16 (now (from .entry)) t a b (now (tile .exit)) ⌝ }
+{
+    let p = t.source;
+    let mut k: usize = 0;
+    while k < SIDE {
+        let line = row(from, p, mirror(t.readup, p.height, b + k));
+        copy_side(line, a, tile, 16 * k);
+        k += 1;
+    }
+}
+
+// Sixteen bytes of a tile fill a part of a row of the target.
+fn put_row(tile: &[u8], at: usize, t: Turn, to: &mut [u8], a: usize, b: usize)
+    requires { ⌜ Placed (t .target) (length (now to)) ⌝ }
+    requires { ⌜ (at + 16 ≤ length (now tile)) × (a < t .target .height) × (b + 16 ≤ t .target .width) ⌝ }
+    ensures { λ _. ⌜ PutRow (now (tile .entry)) at t a b (now (to .entry)) (now (to .exit)) ⌝ }
+{
+    let q = t.target;
+    let start = row_start(q, mirror(t.writeup, q.height, a));
+    let end = start + q.width;
+    copy_side(tile, at, &mut to[start..end], b);
+}
+
+// The sixteen rows of a tile fill parts of sixteen rows of the target.
+fn put_tile(tile: &[u8], t: Turn, to: &mut [u8], a: usize, b: usize)
+    requires { ⌜ Placed (t .target) (length (now to)) ⌝ }
+    requires { ⌜ (length (now tile) ≡ 256) × (a + 16 ≤ t .target .height) × (b + 16 ≤ t .target .width) ⌝ }
+    ensures { λ _. ⌜ PutRows 16 (now (tile .entry)) t a b (now (to .entry)) (now (to .exit)) ⌝ }
+{
+    let mut i: usize = 0;
+    while i < SIDE {
+        put_row(tile, 16 * i, t, to, a + i, b);
+        i += 1;
+    }
+}
+
+// A tile of the source becomes a tile of the target.
+fn turn_tile(from: &[u8], t: Turn, to: &mut [u8], a: usize, b: usize)
+    requires { ⌜ Turnable t (length (now from)) (length (now to)) ⌝ }
+    requires { ⌜ (a + 16 ≤ t .target .height) × (b + 16 ≤ t .target .width) ⌝ }
+    ensures { λ _. ⌜ Part (turnedPixel (now (from .entry)) t) t a (a + 16) b (b + 16) (now (to .entry)) (now (to .exit)) ⌝ }
+{
+    let mut tile = [0u8; 256];
+    let mut spare = [0u8; 256];
+    take_tile(from, t, a, b, &mut tile);
+    transpose(&mut tile, &mut spare);
+    put_tile(&tile, t, to, a, b);
+}
+
+// Sixteen columns of the source become sixteen rows of the target. Down a strip the target's rows are filled from left to right, so that
+// what is read and written stays in the cache.
+fn turn_strip(from: &[u8], t: Turn, to: &mut [u8], a: usize)
+    requires { ⌜ Turnable t (length (now from)) (length (now to)) ⌝ }
+    requires { ⌜ a + 16 ≤ t .target .height ⌝ }
+    ensures { λ _. ⌜ Part (turnedPixel (now (from .entry)) t) t a (a + 16) 0 (t .target .width) (now (to .entry)) (now (to .exit)) ⌝ }
+{
+    let width = t.target.width;
+    let mut b: usize = 0;
+    while SIDE <= width - b {
+        turn_tile(from, t, to, a, b);
+        b += SIDE;
+    }
+    turn_rows(from, t, to, a, a + SIDE, b);
+}
+
+// The target becomes the source transposed.
+fn turn_page(from: &[u8], t: Turn, to: &mut [u8])
+    requires { ⌜ Turnable t (length (now from)) (length (now to)) ⌝ }
+    ensures { λ _. ⌜ now (to .exit) ≡ written (t .target) (turnedPixel (now (from .entry)) t) (now (to .entry)) ⌝ }
+{
+    let height = t.target.height;
+    let mut a: usize = 0;
+    while SIDE <= height - a {
+        turn_strip(from, t, to, a);
+        a += SIDE;
+    }
+    turn_rows(from, t, to, a, height, 0);
+}
+
+// Where the compact page stands in its own tray.
+pub fn compact(steep: bool, p: Placement) -> Placement
+    ensures { λ r. ⌜ r ≡ compactOf steep p ⌝ }
+{
+    if steep {
+        return Placement {
+            offset: 0,
+            width: p.width,
+            height: p.height,
+            stride: p.width,
+        };
+    }
+    Placement {
+        offset: 0,
+        width: p.height,
+        height: p.width,
+        stride: p.height,
+    }
+}
+
+// The page's pixels are laid out compactly in the first bytes of a tray; the bytes after them are as they were.
+pub fn page_in(source: &[u8], p: Placement, steep: bool, falls: bool, page: &mut [u8])
+    requires { ⌜ Placed p (length (now source)) ⌝ }
+    requires { ⌜ p .width * p .height ≤ length (now page) ⌝ }
+    ensures { λ _. ⌜ PageIn (now (source .entry)) p steep falls (now (page .entry)) (now (page .exit)) ⌝ }
+{
+    let q = compact(steep, p);
+    if steep {
+        copy_rows(source, p, falls, page, q);
+    } else {
+        let t = Turn {
+            source: p,
+            target: q,
+            readup: falls,
+            writeup: false,
+        };
+        turn_page(source, t, page);
+    }
+}
+
+// The compact page is written to its place in a tray; every byte outside that place is as it was.
+pub fn page_out(page: &[u8], steep: bool, falls: bool, p: Placement, out: &mut [u8])
+    requires { ⌜ Placed p (length (now out)) ⌝ }
+    requires { ⌜ p .width * p .height ≤ length (now page) ⌝ }
+    ensures { λ _. ⌜ now (out .exit) ≡ written p (compactPixel (now (page .entry)) steep falls p) (now (out .entry)) ⌝ }
+{
+    let q = compact(steep, p);
+    if steep {
+        copy_rows(page, q, falls, out, p);
+    } else {
+        let t = Turn {
+            source: q,
+            target: p,
+            readup: false,
+            writeup: falls,
+        };
+        turn_page(page, t, out);
+    }
+}
