@@ -3,31 +3,20 @@
 use mathlib.Core.Path.{_≡_, refl, sym, _∙_, ap, subst}
 use mathlib.Core.Bool.{Bool, true, false, _&&_}
 use mathlib.Core.List.{List}
-use Prim.Native.Nat.{ℕ, _+_, _-_, _*_, _/_, _≤_, _<_}
+use Prim.Native.Nat.{ℕ, _+_, _-_, _*_, _≤_, _<_}
 use native.Mathlib.Nat.{mul-comm, sub-zero, le-div-iff-mul-le, le-refl}
 use native.Mathlib.Omega.{arith}
 use lib.Dec.{leb, ltb}
 use lib.ListN.{length, getD}
 use borrow.Author.Tests.{le-ltb}
 use Rattle.tray.specs.declared.Placement.{Placement}
-use Rattle.tray.specs.declared.turn.Turn.{Turn}
 use Rattle.tray.specs.Placement.{byteOf, pixelIn}
 use Rattle.tray.specs.Written.{columnOf, rowOf, inside, written}
-use Rattle.tray.specs.Turned.{mirrored, downOf, acrossOf, compactColumn, compactAt, compactOf}
-use Rattle.tray.specs.Laws.{
-  Placed,
-  length-written,
-  written-outside,
-  written-pixel,
-  written-same,
-  mirrored-twice,
-  sides-product,
-  down-in,
-  compact-column-in,
-  compact-below,
-  compact-byte,
-}
-use Rattle.tray.specs.Pages.{Alike, Turnable, PageIn, copiedPixel, sourcePixel, turnedPixel, compactPixel}
+use Rattle.geometry.specs.Drift.{mirrored}
+use Rattle.tray.specs.Turned.{downOf, acrossOf, compactColumn, compactAt, compactOf}
+use Rattle.tray.specs.Promises.{Placed, PageIn, compactPixel}
+use Rattle.tray.specs.Laws.{length-written, written-outside, written-pixel, written-same, mirrored-twice, down-in, compact-column-in, compact-below, compact-byte}
+use Rattle.tray.specs.Pieces.{Alike, Turnable, copiedPixel, sourcePixel, turnedPixel}
 
 both-false : (a b : Bool) → a && (b && false) ≡ false
 both-false true true = refl

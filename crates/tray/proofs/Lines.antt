@@ -11,12 +11,13 @@ use lib.ListN.{length, getD, take, drop}
 use Rattle.tray.specs.declared.Placement.{Placement}
 use Rattle.tray.specs.declared.turn.Turn.{Turn}
 use Rattle.tray.specs.Placement.{rowStart, pixelIn}
-use Rattle.tray.specs.Turned.{mirrored}
-use Rattle.tray.specs.Laws.{Placed, Filled, row-room, row-pixel, mirrored-in, mirrored-twice}
+use Rattle.geometry.specs.Drift.{mirrored}
+use Rattle.tray.specs.Promises.{Placed, Filled}
+use Rattle.tray.specs.Laws.{row-room, row-pixel, mirrored-in, mirrored-twice}
 use Rattle.tray.specs.Tiles.{Copied, Transposed}
-use Rattle.tray.specs.Pages.{Taken, Part, PutRow, PutRows, copiedPixel, sourcePixel, turnedPixel}
+use Rattle.tray.specs.Pieces.{Taken, Part, PutRow, PutRows, copiedPixel, sourcePixel, turnedPixel}
 use Rattle.tray.proofs.Lent.{part-length}
-use Rattle.tray.proofs.Pieces.{part-none, part-size, join-down}
+use Rattle.tray.proofs.Pieces.{part-none, join-down}
 
 module _ (tray line : List ℕ) (p : Placement) (r : ℕ) (is : line ≡ take (p .width) (drop (rowStart p r) tray)) where
   pub line-length : Placed p (length tray) → r < p .height → length line ≡ p .width

@@ -1,6 +1,7 @@
--- A rectangle painted row by row.
+-- A rectangle painted row by row, and a box of the page with it.
 -- Assumes nothing.
 use mathlib.Core.Path.{_≡_, refl, sym, _∙_, ap, subst}
+use mathlib.Core.Bool.{Bool}
 use mathlib.Core.List.{List}
 use mathlib.Core.Logic.{by-cases}
 use Prim.Native.Nat.{ℕ, _+_, _-_, _*_, _≤_, _<_}
@@ -9,8 +10,10 @@ use native.Mathlib.Decide.{decLt}
 use native.Mathlib.Omega.{arith}
 use lib.ListN.{length, getD}
 use borrow.Rule.Slice.PartMut.{putMid}
-use Rattle.tray.specs.Turned.{Rectangle, Within}
-use Rattle.tray.specs.Laws.{Painted, cell-below}
+use Rattle.tray.specs.declared.boxes.Rectangle.{Rectangle}
+use Rattle.tray.specs.Turned.{Within, acrossOf, turnedBox}
+use Rattle.tray.specs.Promises.{Painted, OnPage, BoxPainted}
+use Rattle.tray.specs.Laws.{OnCompact, cell-below, on-compact, box-painted}
 use Rattle.tray.proofs.Lent.{lent-length, lent-below, lent-within, lent-above}
 
 abbrev pub rows : ℕ → ℕ → ℕ → ℕ → Rectangle
@@ -74,3 +77,21 @@ module _ (w top left right value r : ℕ) (before page ys : List ℕ) where
         where
           above : (a b : ℕ) → r * w + right ≤ a * w + b → getD (putMid (r * w + left) (right - left) page ys) (a * w + b) 0 ≡ getD page (a * w + b) 0
           above a b l = lent-above (r * w + left) (right - left) page ys room-now long (a * w + b) (omega arith)
+
+-- ---- a box, by the rectangle that it was turned into
+
+module _
+    (steep falls : Bool) (width height : ℕ) (x : Rectangle) (on : OnPage x width height) (y : Rectangle) (w : ℕ)
+    (turned : y ≡ turnedBox steep falls width height x) (across : w ≡ acrossOf steep width height)
+  where
+    pub on-compact-as : (n : ℕ) → width * height ≤ n → OnCompact y w n
+    on-compact-as n room =
+        subst (λ (v : ℕ). OnCompact y v n) (sym across)
+        (subst (λ (z : Rectangle). OnCompact z (acrossOf steep width height) n) (sym turned) (on-compact steep falls width height x on n room))
+
+    pub box-painted-as :
+        (value : ℕ) (before after : List ℕ) → Painted w y value before after → BoxPainted steep falls width height x value before after
+    box-painted-as value before after p =
+        box-painted steep falls width height x on value before after
+        (subst (λ (v : ℕ). Painted v (turnedBox steep falls width height x) value before after) across
+        (subst (λ (z : Rectangle). Painted w z value before after) turned p))

@@ -4,7 +4,7 @@ use mathlib.Core.Path.{_≡_, refl, sym, _∙_, ap, subst}
 use mathlib.Core.Bool.{Bool, true, false, cond, true≢false}
 use mathlib.Core.List.{List}
 use mathlib.Core.Logic.{by-cases, _⊎_, inl, inr, ⊎-elim}
-use Prim.Native.Nat.{ℕ, _+_, _-_, _*_, _≤_, _<_}
+use Prim.Native.Nat.{ℕ, _+_, _-_, _≤_, _<_}
 use native.Mathlib.Nat.{mul-le-mul-right}
 use native.Mathlib.Decide.{decLt}
 use native.Mathlib.Omega.{arith}
@@ -15,25 +15,11 @@ use Rattle.tray.specs.declared.Placement.{Placement}
 use Rattle.tray.specs.declared.turn.Turn.{Turn}
 use Rattle.tray.specs.Placement.{rowStart, byteOf}
 use Rattle.tray.specs.Written.{columnOf, rowOf, inside, written}
-use Rattle.tray.specs.Turned.{mirrored}
-use Rattle.tray.specs.Laws.{
-  Placed,
-  Right,
-  Moved,
-  row-room,
-  byte-is,
-  inside-byte,
-  length-written,
-  written-at,
-  moved-none,
-  moved-then,
-  moved-length,
-  moved-all,
-  mirrored-in,
-  mirrored-twice,
-}
+use Rattle.geometry.specs.Drift.{mirrored}
+use Rattle.tray.specs.Promises.{Placed}
+use Rattle.tray.specs.Pieces.{Right, Moved, Turnable, Stored, Part}
+use Rattle.tray.specs.Laws.{row-room, byte-is, inside-byte, length-written, written-at, moved-none, moved-then, moved-length, moved-all, mirrored-in, mirrored-twice}
 use Rattle.tray.specs.Tiles.{Copied}
-use Rattle.tray.specs.Pages.{Turnable, Stored, Part}
 use Rattle.tray.proofs.Lent.{lent-length, lent-below, lent-within, lent-above}
 
 -- ---- one row

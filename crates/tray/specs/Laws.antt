@@ -1,7 +1,7 @@
 -- Laws of the definitions, for those who build on pages in trays.
 -- Assumes nothing.
-use mathlib.Core.Path.{_≡_, refl, sym, _∙_, ap, ap₂, subst}
-use mathlib.Core.Logic.{⊎-elim, _≢_, by-cases}
+use mathlib.Core.Path.{_≡_, refl, sym, _∙_, ap, subst}
+use mathlib.Core.Logic.{by-cases}
 use mathlib.Core.Bool.{Bool, true, false, _&&_, cond, and-eq-true-iff}
 use mathlib.Core.List.{List, [], _∷_, _++_}
 use Prim.Native.Nat.{ℕ, zero, suc, _+_, _-_, _*_, _/_, _%_, _≤_, _<_}
@@ -15,6 +15,7 @@ use native.Mathlib.Nat.{
   mul-add-mod-self-right,
   mul-add-div-right,
   div-add-mod',
+  le-div-iff-mul-le,
 }
 use native.Mathlib.Decide.{decLt}
 use native.Mathlib.Omega.{arith}
@@ -25,18 +26,13 @@ use borrow.Author.Tests.{leb-true, ltb-true, le-leb, lt-ltb}
 use Rattle.tray.specs.declared.Placement.{Placement}
 use Rattle.tray.specs.Placement.{rowStart, byteOf, pixelIn, sideAllowed, allowed, fits, longestSide, longestStride}
 use Rattle.tray.specs.Written.{columnOf, rowOf, inside, writtenFrom, written, cleared}
-use Rattle.tray.specs.Turned.{mirrored, downOf, acrossOf, compactColumn, compactAt, compactOf, Rectangle, Within, boxed, mirroredFrom, mirroredTo, turnedBox}
+use Rattle.tray.specs.declared.boxes.Rectangle.{Rectangle}
+use Rattle.tray.specs.Promises.{Placed, Painted, OnPage, BoxPainted}
+use Rattle.tray.specs.Pieces.{Right, Moved}
+use Rattle.geometry.specs.Drift.{mirrored}
+use Rattle.tray.specs.Turned.{downOf, acrossOf, compactColumn, compactAt, pageColumn, pageRow, compactOf, Within, mirroredFrom, mirroredTo, turnedBox}
 
--- ---- pages within the limits, in a tray of n bytes
-
-pub record Placed (p : Placement) (n : ℕ) : Type 0 where
-  pub width-least : 1 ≤ p .width
-  pub width-most : p .width ≤ longestSide
-  pub height-least : 1 ≤ p .height
-  pub height-most : p .height ≤ longestSide
-  pub stride-least : p .width ≤ p .stride
-  pub stride-most : p .stride ≤ longestStride
-  pub fitting : rowStart p (p .height - 1) + p .width ≤ n
+-- ---- pages that fit, and their rows
 
 -- what the two decisions say, as facts
 pub placed : (p : Placement) (n : ℕ) → allowed p ≡ true → fits p n ≡ true → Placed p n
@@ -67,11 +63,6 @@ row-room p n r h l =
 pub row-pixel : (tray : List ℕ) (p : Placement) (c r : ℕ) → c < p .width → getD (take (p .width) (drop (rowStart p r) tray)) c 0 ≡ pixelIn tray p c r
 unfolding pixelIn byteOf
 row-pixel tray p c r l = rw (getD-take, getD-drop)
-
--- a row holds the other, read from the other end where it is mirrored
-pub record Filled (from : List ℕ) (falls : Bool) (to : List ℕ) : Type 0 where
-  pub size : length to ≡ length from
-  pub each : (k : ℕ) → k < length from → getD to k 0 ≡ getD from (mirrored falls (length from) k) 0
 
 -- ---- a pixel's byte, and back
 
@@ -190,16 +181,6 @@ written-same p one two tray same =
         written-at p one tray i here ∙ by-place i (inside p i) refl ∙ sym (written-at p two tray i here)
 
 -- ---- a page written piece by piece
-
--- the tray holds the page's pixel at column c, row r
-abbrev pub Right : Placement → (ℕ → ℕ → ℕ) → List ℕ → ℕ → ℕ → Type 0
-Right p page tray c r = getD tray (byteOf p c r) 0 ≡ page c r
-
--- From before to after nothing outside the page was changed, for the page written over the one is the page written over the other; and
--- pixels that were right are so still.
-pub record Moved (p : Placement) (page : ℕ → ℕ → ℕ) (before after : List ℕ) : Type 0 where
-  pub outside : written p page after ≡ written p page before
-  pub kept : (c r : ℕ) → c < p .width → r < p .height → Right p page before c r → Right p page after c r
 
 module _ (p : Placement) (page : ℕ → ℕ → ℕ) where
   pub moved-none : (tray : List ℕ) → Moved p page tray tray
@@ -334,6 +315,23 @@ module _ (steep falls : Bool) (width height c r c′ r′ : ℕ) where
       by-way true down across = (across, down)
       by-way false down across = (down, across)
 
+-- each place of the compact page is a pixel's
+pub record PixelAt (steep falls : Bool) (width height a b c r : ℕ) : Type 0 where
+  pub column-in : c < width
+  pub row-in : r < height
+  pub down : downOf steep c r ≡ a
+  pub across : compactColumn steep falls width height c r ≡ b
+
+module _ (falls : Bool) (width height a b : ℕ) where
+  pub compact-pixel :
+      (steep : Bool) → a < downOf steep width height → b < acrossOf steep width height
+      → PixelAt steep falls width height a b (pageColumn steep falls width height a b) (pageRow steep falls width height a b)
+  unfolding pageColumn pageRow compactColumn downOf acrossOf
+  compact-pixel true a-in b-in =
+      record { column-in = mirrored-in falls width b b-in; row-in = a-in; down = refl; across = mirrored-twice falls width b b-in }
+  compact-pixel false a-in b-in =
+      record { column-in = a-in; row-in = mirrored-in falls height b b-in; down = refl; across = mirrored-twice falls height b b-in }
+
 -- the compact page is a page of its own: the byte of its column b, row a
 pub compact-byte :
     (steep falls : Bool) (p : Placement) (c r : ℕ)
@@ -343,12 +341,6 @@ unfolding byteOf compactOf compactAt
 compact-byte steep falls p c r = omega arith
 
 -- ---- boxes on the compact page
-
--- a page of rows that are w long, with a rectangle of one value
-pub record Painted (w : ℕ) (x : Rectangle) (value : ℕ) (before after : List ℕ) : Type 0 where
-  pub size : length after ≡ length before
-  pub painted : (a b : ℕ) → Within x a b → getD after (a * w + b) 0 ≡ value
-  pub kept : (a b : ℕ) → b < w → (Within x a b → ⊥) → getD after (a * w + b) 0 ≡ getD before (a * w + b) 0
 
 mirrored-between :
     (falls : Bool) (w m n k : ℕ) → n ≤ w → k < w → m ≤ k → k < n
@@ -395,3 +387,76 @@ module _ (steep falls : Bool) (width height : ℕ) (x : Rectangle) (right-in : x
       by-way false i =
           let across = between-mirrored falls height (x .top) (x .bottom) r bottom-in r-in (i .from-left) (i .before-right) in
           record { below-top = across .0; above-bottom = across .1; from-left = i .below-top; before-right = i .above-bottom }
+
+-- what painting the compact page wants of the turned rectangle
+pub record OnCompact (y : Rectangle) (w n : ℕ) : Type 0 where
+  pub high : y .top ≤ y .bottom
+  pub wide : y .left ≤ y .right
+  pub right-in : y .right ≤ w
+  pub rows-in : y .bottom * w ≤ n
+
+module _ (steep falls : Bool) (width height : ℕ) (x : Rectangle) (on : OnPage x width height) where
+  bottom-turned : turnedBox steep falls width height x .bottom ≤ downOf steep width height
+  unfolding turnedBox downOf
+  bottom-turned = by-way steep
+    where
+      by-way : (steep : Bool) → downOf steep (x .right) (x .bottom) ≤ downOf steep width height
+      by-way true = on .bottom-in
+      by-way false = on .right-in
+
+  pub on-compact : (n : ℕ) → width * height ≤ n → OnCompact (turnedBox steep falls width height x) (acrossOf steep width height) n
+  unfolding turnedBox downOf acrossOf mirroredFrom mirroredTo
+  on-compact n room =
+      record {
+        high = high-way steep;
+        wide = wide-way steep falls;
+        right-in = right-way steep falls;
+        rows-in = omega (arith, mul-le-mul-right (acrossOf steep width height) bottom-turned, sides-product steep width height);
+      }
+    where
+      high-way : (steep : Bool) → downOf steep (x .left) (x .top) ≤ downOf steep (x .right) (x .bottom)
+      high-way true = on .high
+      high-way false = on .wide
+
+      wide-way : (steep falls : Bool) → turnedBox steep falls width height x .left ≤ turnedBox steep falls width height x .right
+      wide-way true true = omega (arith, on .wide)
+      wide-way true false = on .wide
+      wide-way false true = omega (arith, on .high)
+      wide-way false false = on .high
+
+      right-way : (steep falls : Bool) → turnedBox steep falls width height x .right ≤ acrossOf steep width height
+      right-way true true = omega arith
+      right-way true false = on .right-in
+      right-way false true = omega arith
+      right-way false false = on .bottom-in
+
+  across-least : 0 < acrossOf steep width height
+  unfolding acrossOf
+  across-least = by-way steep
+    where
+      by-way : (steep : Bool) → 0 < acrossOf steep width height
+      by-way true = on .width-least
+      by-way false = on .height-least
+
+  -- painting the turned rectangle paints the box's pixels, and no others
+  pub box-painted :
+      (value : ℕ) (before after : List ℕ)
+      → Painted (acrossOf steep width height) (turnedBox steep falls width height x) value before after
+      → BoxPainted steep falls width height x value before after
+  unfolding compactAt
+  box-painted value before after p =
+      record {
+        size = p .size;
+        hidden = λ r r-in c c-in i.
+            p .painted (downOf steep c r) (compactColumn steep falls width height c r)
+            (within-turned steep falls width height x (on .right-in) (on .bottom-in) c r c-in r-in i);
+        shown = λ r r-in c c-in out.
+            p .kept (downOf steep c r) (compactColumn steep falls width height c r) (compact-column-in steep falls width height c r c-in r-in)
+            (λ i. out (turned-within steep falls width height x (on .right-in) (on .bottom-in) c r c-in r-in i));
+        rest = λ i l.
+            let w = acrossOf steep width height in
+            let past : downOf steep width height ≤ i / w =
+            le-div-iff-mul-le across-least .1 (omega (arith, sides-product steep width height)) in
+            let same = p .kept (i / w) (i % w) (mod-lt i across-least) (λ q. omega (arith, q .above-bottom, bottom-turned, past)) in
+            subst (λ (k : ℕ). getD after k 0 ≡ getD before k 0) (div-add-mod' i w) same;
+      }

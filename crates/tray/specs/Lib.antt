@@ -2,6 +2,7 @@ pub mod Placement
 pub mod Written
 pub mod Turned
 pub mod Tiles
+pub mod Promises
+pub mod Pieces
 pub mod Laws
-pub mod Pages
 pub mod Worked

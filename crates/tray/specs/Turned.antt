@@ -4,12 +4,9 @@
 -- Assumes nothing.
 use Prim.Native.Nat.{ℕ, _+_, _-_, _*_, _≤_, _<_}
 use mathlib.Core.Bool.{Bool, true, false}
+use Rattle.geometry.specs.Drift.{mirrored}
 use Rattle.tray.specs.declared.Placement.{Placement}
-
--- of w columns, the one that is as far from the last as m is from the first; with false, m itself
-unfoldable pub mirrored : Bool → ℕ → ℕ → ℕ
-mirrored true w m = w - 1 - m
-mirrored false w m = m
+use Rattle.tray.specs.declared.boxes.Rectangle.{Rectangle}
 
 -- Of a column and a row, or of a width and a height: the one along which the lines run ..
 unfoldable pub downOf : Bool → ℕ → ℕ → ℕ
@@ -29,6 +26,13 @@ compactColumn steep falls width height c r = mirrored falls (acrossOf steep widt
 unfoldable pub compactAt : Bool → Bool → ℕ → ℕ → ℕ → ℕ → ℕ
 compactAt steep falls width height c r = downOf steep c r * acrossOf steep width height + compactColumn steep falls width height c r
 
+-- and back: the column and the row of the pixel at row a, column b of the compact page
+unfoldable pub pageColumn : Bool → Bool → ℕ → ℕ → ℕ → ℕ → ℕ
+pageColumn steep falls width height a b = acrossOf steep (mirrored falls (acrossOf steep width height) b) a
+
+unfoldable pub pageRow : Bool → Bool → ℕ → ℕ → ℕ → ℕ → ℕ
+pageRow steep falls width height a b = downOf steep (mirrored falls (acrossOf steep width height) b) a
+
 -- the compact page as a page of its own, at the start of its tray, with nothing between its rows
 unfoldable pub compactOf : Bool → Placement → Placement
 compactOf steep p =
@@ -39,14 +43,8 @@ compactOf steep p =
       stride = acrossOf steep (p .width) (p .height);
     }
 
--- some rows and columns of a page: from top to just above bottom, from left to just before right
-pub record Rectangle : Type 0 where
-  pub top : ℕ
-  pub bottom : ℕ
-  pub left : ℕ
-  pub right : ℕ
-
--- the row a and the column b lie in a rectangle
+-- the row a and the column b lie in a rectangle: some rows and columns of a page, from top to just above bottom, from left to just before
+-- right
 pub record Within (x : Rectangle) (a b : ℕ) : Type 0 where
   pub below-top : x .top ≤ a
   pub above-bottom : a < x .bottom

@@ -5,20 +5,10 @@ use mathlib.Core.Path.{_≡_, refl}
 use Prim.Native.Nat.{ℕ, _+_, _*_}
 use mathlib.Core.Bool.{Bool, true, false}
 use mathlib.Core.List.{List, [], _∷_, map}
-use Rattle.tray.specs.Placement.{byteOf, allowed, sideAllowed, fits, scratchNeeded}
+use Rattle.tray.specs.Placement.{allowed, sideAllowed, fits, scratchNeeded}
 use Rattle.tray.specs.Written.{columnOf, rowOf, inside, writtenFrom, written, cleared}
-use Rattle.tray.specs.Turned.{
-  mirrored,
-  downOf,
-  acrossOf,
-  compactColumn,
-  compactAt,
-  Rectangle,
-  boxed,
-  mirroredFrom,
-  mirroredTo,
-  turnedBox,
-}
+use Rattle.geometry.specs.Drift.{mirrored}
+use Rattle.tray.specs.Turned.{downOf, acrossOf, compactColumn, compactAt, boxed, mirroredFrom, mirroredTo, turnedBox, }
 use Rattle.tray.specs.declared.Placement.{Placement}
 
 abbrev middle : Placement

@@ -3,7 +3,7 @@ ghost use mathlib.Core.Path.{_≡_};
 ghost use Prim.Native.Nat.{_*_, _≤_};
 ghost use lib.ListN.{length, replicate};
 ghost use Rattle.tray.specs.Written.{cleared};
-ghost use Rattle.tray.specs.Laws.{Painted};
+ghost use Rattle.tray.specs.Promises.{Painted};
 
 // Every byte of a part takes the value.
 fn fill(part: &mut [u8], value: u8)

@@ -6,7 +6,7 @@ ghost use mathlib.Core.Bool.{true, false};
 ghost use Prim.Native.Nat.{_<_};
 ghost use lib.ListN.{length, take, drop};
 ghost use Rattle.tray.specs.Placement.{rowStart};
-ghost use Rattle.tray.specs.Laws.{Placed, Filled};
+ghost use Rattle.tray.specs.Promises.{Placed, Filled};
 
 // The row's own part of the caller's tray: from its start, exactly as long as the page is wide.
 pub fn row(tray: &[u8], p: Placement, r: usize) -> &[u8]

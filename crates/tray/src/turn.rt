@@ -8,12 +8,13 @@ use crate::tile::SIDE;
 use crate::tile::copy_side;
 use crate::tile::transpose;
 ghost use mathlib.Core.Path.{_≡_};
-ghost use Prim.Native.Nat.{ℕ, _+_, _*_, _≤_, _<_};
-ghost use lib.ListN.{length, getD};
+ghost use Prim.Native.Nat.{_+_, _*_, _≤_, _<_};
+ghost use lib.ListN.{length};
 ghost use Rattle.tray.specs.Written.{written};
-ghost use Rattle.tray.specs.Turned.{mirrored, compactOf};
-ghost use Rattle.tray.specs.Laws.{Placed};
-ghost use Rattle.tray.specs.Pages.{Alike, Turnable, Stored, Taken, Part, PutRow, PutRows, PageIn, copiedPixel, sourcePixel, turnedPixel, compactPixel};
+ghost use Rattle.geometry.specs.Drift.{mirrored};
+ghost use Rattle.tray.specs.Turned.{compactOf};
+ghost use Rattle.tray.specs.Promises.{Placed, PageIn, compactPixel};
+ghost use Rattle.tray.specs.Pieces.{Alike, Turnable, Stored, Taken, Part, PutRow, PutRows, copiedPixel, sourcePixel, turnedPixel};
 
 // A page and its transposed page. Where readup is true the source's rows are taken from the last one up, and where writeup is true the
 // target's rows are filled from the last one up.
@@ -102,7 +103,7 @@ fn take_tile(from: &[u8], t: Turn, a: usize, b: usize, tile: &mut [u8])
     let mut k: usize = 0;
     while k < SIDE {
         let line = row(from, p, mirror(t.readup, p.height, b + k));
-        copy_side(line, a, tile, 16 * k);
+        copy_side(line, a, tile, SIDE * k);
         k += 1;
     }
 }
@@ -127,7 +128,7 @@ fn put_tile(tile: &[u8], t: Turn, to: &mut [u8], a: usize, b: usize)
 {
     let mut i: usize = 0;
     while i < SIDE {
-        put_row(tile, 16 * i, t, to, a + i, b);
+        put_row(tile, SIDE * i, t, to, a + i, b);
         i += 1;
     }
 }

@@ -1,8 +1,6 @@
 -- `tray::paint::clear` meets its contract: the first n bytes are filled with zero. Assumes nothing.
 use mathlib.Core.Path.{sym}
-use mathlib.Core.List.{_++_}
 use borrow.Author.Needs.{needs}
-use lib.ListN.{length, drop}
 use lib.Seq.{length-take-le, length-front}
 use Rattle.tray.specs.Written.{cleared}
 use Rattle.tray.proofs.paint.clear.Statement.{statement}

@@ -7,7 +7,7 @@ use native.Mathlib.Omega.{arith}
 use borrow.Author.Needs.{needs}
 use borrow.Rule.Slice.PartMut.{midOf, putMid}
 use lib.ListN.{length, getD, replicate, length-replicate, getD-replicate}
-use Rattle.tray.specs.Laws.{Painted}
+use Rattle.tray.specs.Promises.{Painted}
 use Rattle.tray.proofs.Lent.{part-length}
 use Rattle.tray.proofs.Painting.{rows, painted-none, painted-more}
 use Rattle.tray.proofs.paint.paint.Statement.{statement}

@@ -4,7 +4,7 @@ use Prim.Native.Nat.{ℕ, _≤_, _<_, _-_}
 use mathlib.Core.Path.{_≡_, sym, ap}
 use native.Mathlib.Omega.{arith}
 use lib.ListN.{length, getD}
-use Rattle.tray.specs.Turned.{mirrored}
+use Rattle.geometry.specs.Drift.{mirrored}
 use Rattle.tray.proofs.Stores.{store-more}
 use Rattle.tray.proofs.row.fill_mirrored.Statement.{statement}
 use Rattle.tray.proofs.row.fill_mirrored.Tie as tie

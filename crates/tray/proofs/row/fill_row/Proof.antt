@@ -2,7 +2,7 @@
 use mathlib.Core.Path.{sym, subst}
 use mathlib.Core.Bool.{Bool}
 use borrow.Author.Needs.{needs}
-use Rattle.tray.specs.Laws.{Filled}
+use Rattle.tray.specs.Promises.{Filled}
 use Rattle.tray.proofs.row.fill_row.Statement.{statement}
 use Rattle.tray.proofs.row.fill_row.Tie as tie
 

@@ -2,7 +2,7 @@
 use mathlib.Core.Path.{_≡_, refl, subst}
 use Prim.Native.Nat.{ℕ, _*_, _-_, _≤_}
 use native.Mathlib.Omega.{arith}
-use lib.ListN.{length, getD, length-set}
+use lib.ListN.{getD, length-set}
 use borrow.Author.Needs.{needs}
 use Rattle.tray.specs.Tiles.{Shuffled}
 use Rattle.tray.proofs.Tiling.{shuffled-none, shuffled-more}

@@ -1,13 +1,14 @@
 -- `tray::turn::copy_rows` meets its contract. The invariant: the first r rows are copied, and nothing else is changed. Assumes nothing.
-use mathlib.Core.Path.{_≡_, sym, _∙_, ap, subst}
+use mathlib.Core.Path.{_≡_, sym, _∙_, subst}
 use Prim.Native.Nat.{ℕ, _+_, _-_, _≤_, _<_, _^_}
 use native.Mathlib.Nat.{add-sub-cancel-left}
 use native.Mathlib.Omega.{arith}
 use borrow.Author.Needs.{needs}
 use lib.ListN.{length}
 use Rattle.tray.specs.Placement.{rowStart}
-use Rattle.tray.specs.Laws.{Placed, moved-length, row-room}
-use Rattle.tray.specs.Pages.{copiedPixel}
+use Rattle.tray.specs.Promises.{Placed}
+use Rattle.tray.specs.Laws.{moved-length, row-room}
+use Rattle.tray.specs.Pieces.{copiedPixel}
 use Rattle.tray.proofs.Lent.{part-length}
 use Rattle.tray.proofs.Pieces.{Rows, rows-none, rows-more, rows-all}
 use Rattle.tray.proofs.Lines.{line-length, filled-pixel}

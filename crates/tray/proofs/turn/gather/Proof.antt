@@ -3,9 +3,8 @@ use mathlib.Core.Path.{_≡_, sym, subst}
 use Prim.Native.Nat.{ℕ, _-_, _≤_, _<_}
 use native.Mathlib.Omega.{arith}
 use borrow.Author.Needs.{needs}
-use lib.ListN.{length}
 use Rattle.tray.specs.Laws.{mirrored-in}
-use Rattle.tray.specs.Pages.{Stored, sourcePixel}
+use Rattle.tray.specs.Pieces.{Stored, sourcePixel}
 use Rattle.tray.proofs.Pieces.{stored-none, stored-more}
 use Rattle.tray.proofs.Lines.{line-length, line-source}
 use Rattle.tray.proofs.turn.gather.Statement.{statement}

@@ -1,6 +1,6 @@
 -- `tray::turn::mirror` meets its contract. Assumes nothing.
 use borrow.Author.Needs.{needs}
-use Rattle.tray.specs.Turned.{mirrored}
+use Rattle.geometry.specs.Drift.{mirrored}
 use Rattle.tray.proofs.turn.mirror.Statement.{statement}
 use Rattle.tray.proofs.turn.mirror.Tie as tie
 

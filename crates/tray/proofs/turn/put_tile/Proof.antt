@@ -1,11 +1,10 @@
 -- `tray::turn::put_tile` meets its contract. The invariant: i rows of the tile are in their place. Assumes nothing.
 use mathlib.Core.Path.{_≡_, sym, subst}
-use Prim.Native.Nat.{ℕ, _+_, _-_, _≤_, _<_}
+use Prim.Native.Nat.{ℕ, _-_, _≤_}
 use native.Mathlib.Omega.{arith}
 use borrow.Author.Needs.{needs}
-use lib.ListN.{length}
-use Rattle.tray.specs.Laws.{Placed}
-use Rattle.tray.specs.Pages.{PutRows}
+use Rattle.tray.specs.Promises.{Placed}
+use Rattle.tray.specs.Pieces.{PutRows}
 use Rattle.tray.proofs.Lines.{put-none, put-more}
 use Rattle.tray.proofs.turn.put_tile.Statement.{statement}
 use Rattle.tray.proofs.turn.put_tile.Tie as tie

@@ -1,11 +1,10 @@
 -- `tray::turn::take_tile` meets its contract. The invariant: k rows of the tile are taken. Assumes nothing.
 use mathlib.Core.Path.{_≡_, sym, subst}
-use Prim.Native.Nat.{ℕ, _+_, _-_, _*_, _≤_, _<_}
+use Prim.Native.Nat.{ℕ, _+_, _-_, _≤_, _<_}
 use native.Mathlib.Omega.{arith}
 use borrow.Author.Needs.{needs}
-use lib.ListN.{length}
 use Rattle.tray.specs.Laws.{mirrored-in}
-use Rattle.tray.specs.Pages.{Taken}
+use Rattle.tray.specs.Pieces.{Taken}
 use Rattle.tray.proofs.Lines.{line-length, line-source, taken-none, taken-more}
 use Rattle.tray.proofs.turn.take_tile.Statement.{statement}
 use Rattle.tray.proofs.turn.take_tile.Tie as tie

@@ -3,7 +3,7 @@ use Prim.Native.Nat.{_+_, _-_, _≤_}
 use native.Mathlib.Nat.{le-refl}
 use native.Mathlib.Omega.{arith}
 use borrow.Author.Needs.{needs}
-use Rattle.tray.specs.Pages.{Part, turnedPixel}
+use Rattle.tray.specs.Pieces.{Part, turnedPixel}
 use Rattle.tray.proofs.Pieces.{part-none, part-size, join-down, part-all, turnable-still}
 use Rattle.tray.proofs.turn.turn_page.Statement.{statement}
 use Rattle.tray.proofs.turn.turn_page.Tie as tie

@@ -7,7 +7,7 @@ use borrow.Author.Needs.{needs}
 use lib.ListN.{length, take, drop}
 use Rattle.tray.specs.Placement.{rowStart}
 use Rattle.tray.specs.Laws.{row-room, mirrored-in}
-use Rattle.tray.specs.Pages.{sourcePixel, turnedPixel}
+use Rattle.tray.specs.Pieces.{sourcePixel, turnedPixel}
 use Rattle.tray.proofs.Lent.{part-length}
 use Rattle.tray.proofs.Pieces.{stored-as, part-row-at}
 use Rattle.tray.proofs.Lines.{turned-is}

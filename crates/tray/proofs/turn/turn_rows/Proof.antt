@@ -1,11 +1,10 @@
 -- `tray::turn::turn_rows` meets its contract. The invariant: the rows of the columns from a to just before i are filled. Assumes nothing.
-use mathlib.Core.Path.{_≡_, sym, subst}
-use Prim.Native.Nat.{ℕ, _+_, _-_, _≤_, _<_}
+use mathlib.Core.Path.{_≡_, subst}
+use Prim.Native.Nat.{ℕ, _+_, _-_, _≤_}
 use native.Mathlib.Nat.{le-refl}
 use native.Mathlib.Omega.{arith}
 use borrow.Author.Needs.{needs}
-use lib.ListN.{length}
-use Rattle.tray.specs.Pages.{Part, turnedPixel}
+use Rattle.tray.specs.Pieces.{Part, turnedPixel}
 use Rattle.tray.proofs.Pieces.{part-none, part-size, join-down, turnable-still}
 use Rattle.tray.proofs.turn.turn_rows.Statement.{statement}
 use Rattle.tray.proofs.turn.turn_rows.Tie as tie

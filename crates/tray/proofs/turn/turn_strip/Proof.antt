@@ -1,9 +1,8 @@
 -- `tray::turn::turn_strip` meets its contract. The invariant: the strip is right from column 0 to just before b. Assumes nothing.
 use Prim.Native.Nat.{_+_, _-_, _≤_}
-use native.Mathlib.Nat.{le-refl}
 use native.Mathlib.Omega.{arith}
 use borrow.Author.Needs.{needs}
-use Rattle.tray.specs.Pages.{Part, turnedPixel}
+use Rattle.tray.specs.Pieces.{Part, turnedPixel}
 use mathlib.Core.Path.{_∙_}
 use Rattle.tray.proofs.Pieces.{part-empty, part-size, join-across, turnable-still}
 use Rattle.tray.proofs.turn.turn_strip.Statement.{statement}

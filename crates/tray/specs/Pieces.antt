@@ -1,4 +1,4 @@
--- What is promised of pages that are copied, transposed, taken in and given out.
+-- What the functions promise one another that move a page piece by piece. No caller from outside has to read this.
 -- Assumes nothing.
 use mathlib.Core.Path.{_≡_}
 use mathlib.Core.Bool.{Bool}
@@ -7,9 +7,20 @@ use Prim.Native.Nat.{ℕ, _+_, _*_, _≤_, _<_}
 use lib.ListN.{length, getD}
 use Rattle.tray.specs.declared.Placement.{Placement}
 use Rattle.tray.specs.declared.turn.Turn.{Turn}
-use Rattle.tray.specs.Placement.{pixelIn}
-use Rattle.tray.specs.Turned.{mirrored, compactAt}
-use Rattle.tray.specs.Laws.{Placed, Moved, Right}
+use Rattle.tray.specs.Placement.{byteOf, pixelIn}
+use Rattle.tray.specs.Written.{written}
+use Rattle.geometry.specs.Drift.{mirrored}
+use Rattle.tray.specs.Promises.{Placed}
+
+-- the tray holds the page's pixel at column c, row r
+abbrev pub Right : Placement → (ℕ → ℕ → ℕ) → List ℕ → ℕ → ℕ → Type 0
+Right p page tray c r = getD tray (byteOf p c r) 0 ≡ page c r
+
+-- From before to after nothing outside the page was changed, for the page written over the one is the page written over the other; and
+-- pixels that were right are so still.
+pub record Moved (p : Placement) (page : ℕ → ℕ → ℕ) (before after : List ℕ) : Type 0 where
+  pub outside : written p page after ≡ written p page before
+  pub kept : (c r : ℕ) → c < p .width → r < p .height → Right p page before c r → Right p page after c r
 
 -- the pixel that a copy of the page has at column c, row r: the columns are mirrored where the line falls
 unfoldable pub copiedPixel : List ℕ → Placement → Bool → ℕ → ℕ → ℕ
@@ -65,15 +76,3 @@ pub record PutRows (n : ℕ) (tile : List ℕ) (t : Turn) (a b : ℕ) (before af
       (page : ℕ → ℕ → ℕ)
       → ((i : ℕ) → i < n → (k : ℕ) → k < 16 → getD tile (16 * i + k) 0 ≡ page (b + k) (mirrored (t .writeup) (t .target .height) (a + i)))
       → Part page t a (a + n) b (b + 16) before after
-
--- a source page laid out compactly at the start of a tray, and nothing after it changed
-pub record PageIn (source : List ℕ) (p : Placement) (steep falls : Bool) (before after : List ℕ) : Type 0 where
-  pub size : length after ≡ length before
-  pub pixel :
-      (r : ℕ) → r < p .height → (c : ℕ) → c < p .width
-      → getD after (compactAt steep falls (p .width) (p .height) c r) 0 ≡ pixelIn source p c r
-  pub rest : (i : ℕ) → p .width * p .height ≤ i → getD after i 0 ≡ getD before i 0
-
--- the pixel that a page given out has at column c, row r
-unfoldable pub compactPixel : List ℕ → Bool → Bool → Placement → ℕ → ℕ → ℕ
-compactPixel page steep falls p c r = getD page (compactAt steep falls (p .width) (p .height) c r) 0
