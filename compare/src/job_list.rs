@@ -1,21 +1,72 @@
-//! Jobs of a seed, each on one line with its answer and the later contents of its buffers.
+//! Jobs laid end to end, and what a program that runs them must print: a line a job, with its
+//! answer and the later contents of its buffers.
 
-use crate::job::{Job, Outcome};
-use crate::lines::{Lines, Sides};
-use crate::placement::{scratch_needed, Placement, LONGEST_SIDE, LONGEST_STRIDE};
-use crate::refusal::{BEYOND_LIMITS, BOX_OFF_PAGE, NONE, OUTPUT_DOES_NOT_FIT};
-use crate::refusal::{SCRATCH_TOO_SHORT, SOURCE_DOES_NOT_FIT, TICKET_ENDS};
-use crate::ticket::{self, Ticket, BOX_PLACES, CONNECTED, PERIODIC};
+use crate::job::{self, Job, Outcome};
 use crate::trial::hex;
 
-/// Refusal, place and work, then the whole output tray and the whole scratch.
-pub fn line(answer: [u64; 3], output: &[u8], scratch: &[u8]) -> String {
-    let [refusal, place, work] = answer;
-    format!("{refusal} {place} {work} output {} scratch {}\n", hex(output), hex(scratch))
+/// A job in bytes, as `host.c` reads it: ten numbers of eight bytes, the lowest byte first, then
+/// the bytes of ticket, source, output and scratch.
+pub fn entry(job: &Job) -> Vec<u8> {
+    let [ticket, source, output, scratch] = [&job.ticket, &job.source, &job.output, &job.scratch];
+    let numbers = [
+        ticket.len() as u64,
+        job.width,
+        job.height,
+        job.source_offset,
+        job.source_stride,
+        job.output_offset,
+        job.output_stride,
+        source.len() as u64,
+        output.len() as u64,
+        scratch.len() as u64,
+    ];
+    [&numbers.map(u64::to_le_bytes).concat(), ticket, source, output, scratch]
+        .map(Vec::as_slice)
+        .concat()
 }
 
-pub fn due_line(Outcome { answer, output, scratch }: &Outcome) -> String {
-    line([u64::from(answer.refusal), answer.place, answer.work], output, scratch)
+/// The first entry's job and what comes after it; nothing if the list ends inside the entry.
+pub fn first(mut list: &[u8]) -> Option<(Job, &[u8])> {
+    let mut part = |length: u64| {
+        let part = list.get(..length as usize)?;
+        list = &list[part.len()..];
+        Some(part.to_vec())
+    };
+    let mut numbers = [0; 10];
+    for number in &mut numbers {
+        *number = u64::from_le_bytes(part(8)?.try_into().ok()?);
+    }
+    let [ticket, width, height, source_offset, source_stride, output_offset, output_stride, ..] =
+        numbers;
+    let [.., source, output, scratch] = numbers;
+    let job = Job {
+        ticket: part(ticket)?,
+        width,
+        height,
+        source_offset,
+        source_stride,
+        output_offset,
+        output_stride,
+        source: part(source)?,
+        output: part(output)?,
+        scratch: part(scratch)?,
+    };
+    Some((job, list))
+}
+
+pub fn printed(mut list: &[u8]) -> String {
+    let mut text = String::new();
+    while let Some((job, rest)) = first(list) {
+        text += &line(&job::run(&job));
+        list = rest;
+    }
+    text
+}
+
+/// Refusal, place and work, then the whole output tray and the whole scratch.
+pub fn line(Outcome { answer, output, scratch }: &Outcome) -> String {
+    let answer = format!("{} {} {}", answer.refusal, answer.place, answer.work);
+    format!("{answer} output {} scratch {}\n", hex(output), hex(scratch))
 }
 
 /// All that is lent to a job, to be told with a difference.
@@ -25,100 +76,4 @@ pub fn told(job: &Job) -> String {
     text += &format!(" output at {} stride {}", job.output_offset, job.output_stride);
     let [source, output, scratch] = [&job.source, &job.output, &job.scratch].map(|b| hex(b));
     text + &format!("\nsource {source}\noutput {output}\nscratch {scratch}")
-}
-
-/// What a summary counts, each by its name and whether this job shows it.
-pub fn marks(job: &Job, outcome: &Outcome) -> Vec<(String, bool)> {
-    let refusal = outcome.answer.refusal;
-    let done = refusal == NONE;
-    let mut marks = vec![("done".to_string(), done)];
-    marks.extend((TICKET_ENDS..=BOX_OFF_PAGE).map(|n| (format!("refused {n}"), refusal == n)));
-    marks.extend(refused_marks(job, refusal).map(|(name, holds)| (name.to_string(), holds)));
-    let ticket = ticket::shown(&job.ticket).1;
-    for (name, holds) in ticket_marks(&ticket) {
-        marks.push((format!("done, {name}"), done && holds));
-    }
-    for (name, holds) in placing_marks(job, &ticket, done) {
-        marks.push((format!("done, {name}"), done && holds));
-    }
-    marks
-}
-
-/// Near misses, each with the refusal it is there for.
-fn refused_marks(job: &Job, refusal: u8) -> [(&'static str, bool); 9] {
-    let (source, output) = (job.source_page(), job.output_page());
-    let one_short = |needed: u128, length: usize| needed == length as u128 + 1;
-    let needed = || scratch_needed(job.width, job.height);
-    let (sides, strides) = ([job.width, job.height], [job.source_stride, job.output_stride]);
-    let (beyond, near_end) = (refusal == BEYOND_LIMITS, u64::MAX - 200);
-    let (no_source, no_output) = (refusal == SOURCE_DOES_NOT_FIT, refusal == OUTPUT_DOES_NOT_FIT);
-    let no_scratch = refusal == SCRATCH_TOO_SHORT;
-    [
-        ("source one byte short", no_source && one_short(source.end(), job.source.len())),
-        ("output one byte short", no_output && one_short(output.end(), job.output.len())),
-        ("scratch one byte short", no_scratch && one_short(needed(), job.scratch.len())),
-        ("source offset near 2^64", no_source && source.offset >= near_end),
-        ("output offset near 2^64", no_output && output.offset >= near_end),
-        ("side 0", beyond && sides.contains(&0)),
-        ("side above 8192", beyond && sides.iter().any(|&side| side > LONGEST_SIDE)),
-        ("stride below the width", beyond && strides.iter().any(|&stride| stride < job.width)),
-        ("stride above 16384", beyond && strides.iter().any(|&stride| stride > LONGEST_STRIDE)),
-    ]
-}
-
-/// A way for a vector to point, and whether dx and dy do.
-type Slope = (&'static str, fn(i16, i16) -> bool);
-
-/// Every allowed vector has exactly one of these names.
-const SLOPES: [Slope; 8] = [
-    ("level", |_, dy| dy == 0),
-    ("shallow, dy above 0", |dx, dy| 0 < dy && dy < dx),
-    ("shallow, dy below 0", |dx, dy| dy < 0 && -dy < dx),
-    ("diagonal, dy above 0", |dx, dy| dx == dy),
-    ("diagonal, dy below 0", |dx, dy| dx == -dy),
-    ("steep, dx above 0", |dx, dy| 0 < dx && dx < dy),
-    ("steep, dx below 0", |dx, dy| dx < 0 && -dx < dy),
-    ("upright", |dx, _| dx == 0),
-];
-
-fn ticket_marks(ticket: &Ticket) -> Vec<(String, bool)> {
-    let operations = (1..).zip(["erode", "dilate", "open", "close"]);
-    let mut marks: Vec<_> =
-        operations.map(|(n, name)| (name.to_string(), ticket.operation == n)).collect();
-    for (line, kind) in [(CONNECTED, "connected"), (PERIODIC, "periodic")] {
-        for (slope, holds) in SLOPES {
-            let met = ticket.line == line && holds(ticket.dx, ticket.dy);
-            marks.push((format!("{kind}, {slope}"), met));
-        }
-    }
-    marks.push(("with a phase".to_string(), ticket.phase > 0));
-    marks.push(("with boxes".to_string(), ticket.count > 0));
-    marks.push(("with 64 boxes".to_string(), usize::from(ticket.count) == BOX_PLACES));
-    marks
-}
-
-fn placing_marks(job: &Job, ticket: &Ticket, done: bool) -> [(&'static str, bool); 9] {
-    let (source, output) = (job.source_page(), job.output_page());
-    let room_beside = |page: Placement| page.stride / 2 >= page.width;
-    let ends = |page: Placement, tray: &[u8]| done && page.end() == tray.len() as u128;
-    let scratch_ends = || scratch_needed(job.width, job.height) == job.scratch.len() as u128;
-    let trays_end = ends(source, &job.source) && ends(output, &job.output);
-    let old = [&job.output, &job.scratch].map(|bytes| bytes.iter().any(|&byte| byte != 0));
-    [
-        ("pages side by side in the source", room_beside(source)),
-        ("pages side by side in the output", room_beside(output)),
-        ("placed differently", source.offset != output.offset && source.stride != output.stride),
-        ("stride as the width", source.stride == job.width || output.stride == job.width),
-        ("stride 16384", [source.stride, output.stride].contains(&LONGEST_STRIDE)),
-        ("side 8192", [job.width, job.height].contains(&LONGEST_SIDE)),
-        ("no byte to spare", trays_end && scratch_ends()),
-        ("old contents not zero", old == [true, true]),
-        ("a line of 1000 steps or more", done && long_line(job, ticket)),
-    ]
-}
-
-fn long_line(job: &Job, ticket: &Ticket) -> bool {
-    let sides = Sides { width: job.width as i64, height: job.height as i64 };
-    let long_side = sides.width.max(sides.height) >= 1000;
-    long_side && Lines::of(ticket).every_line(sides).iter().any(|line| line.len() >= 1000)
 }

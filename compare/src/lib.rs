@@ -11,22 +11,23 @@
 //! - `work`: the comparisons of a job, counted block by block
 //! - `job`: a whole job, its answer and the later contents of output tray and scratch
 //! - `page_program`: standard input of the page program to what it must print
-//! - `ticket_list`, `number_list`: the same for the ticket program and the number program
-//! - `job_list`: a job's answer and buffers on one line, and what a summary counts of it
+//! - `ticket_list`, `number_list`, `job_list`: the same for the programs that read tickets, number
+//!   steps, and run jobs
+//! - `marks`: what a summary counts of a job
 //! - `random`, `generate`: seeded inputs of every kind, for this and for other programs
 //! - `program`: another program run once, held to a time limit
 //! - `trial`: what was printed held against what was due
 //! - `drivers`: each kind of program run over generated inputs
-//! - `library`: the library called through C, with the feature `library`
+//!
+//! The library's own job program is `host.c`, beside this source.
 
 pub mod drivers;
 pub mod filter;
 pub mod generate;
 pub mod job;
 pub mod job_list;
-#[cfg(feature = "library")]
-pub mod library;
 pub mod lines;
+pub mod marks;
 pub mod number_list;
 pub mod page_program;
 pub mod placement;

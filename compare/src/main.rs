@@ -5,21 +5,21 @@ use std::process::ExitCode;
 
 use compare::page_program::reply;
 use compare::trial::Trial;
-use compare::{drivers, generate, job, job_list, number_list, ticket_list};
+use compare::{drivers, generate, job_list, number_list, ticket_list};
 
 const USAGE: &str = "usage:
-  compare page                           read a page program's input, print what it must print
-  compare ticket                         read a ticket, print its fields or its refusal
-  compare ticket-list                    read a ticket program's input, print what it must print
-  compare number-list                    read a number program's input, print what it must print
-  compare job-list SEED FIRST COUNT      print each generated job's answer, output and scratch
-  compare make SEED INDEX                write one generated input of a page program
-  compare pages SEED COUNT PROGRAM       run a page program over generated inputs and compare
-  compare tickets SEED COUNT PROGRAM     run a ticket program over generated tickets and compare
-  compare numbers SEED COUNT PROGRAM     run a number program over generated samples and compare
-built with the feature `library`, also:
-  compare library SEED COUNT             run the library over generated jobs and compare
-  compare library-list SEED FIRST COUNT  print what job-list prints, by the library";
+  compare page                            read a page program's input, print what it must print
+  compare ticket                          read a ticket, print its fields or its refusal
+  compare ticket-list                     read a ticket program's input, print what it must print
+  compare number-list                     read a number program's input, print what it must print
+  compare job-list                        read a job program's input, print what it must print
+  compare make SEED INDEX                 write one generated input of a page program
+  compare make-jobs SEED FIRST COUNT      write generated jobs, an input of a job program
+PROGRAM may be several words, the program and its arguments:
+  compare pages SEED COUNT PROGRAM..      run a page program over generated inputs and compare
+  compare tickets SEED COUNT PROGRAM..    run a ticket program over generated tickets and compare
+  compare numbers SEED COUNT PROGRAM..    run a number program over generated samples and compare
+  compare jobs SEED COUNT PROGRAM..       run a job program over generated jobs and compare";
 
 fn main() -> ExitCode {
     let words: Vec<String> = std::env::args().skip(1).collect();
@@ -42,27 +42,14 @@ fn did(words: &[&str]) -> Option<io::Result<ExitCode>> {
         ["ticket-list"] => answer(ticket_list::printed),
         ["number-list"] => answer(number_list::printed),
         ["make", seed, index] => print(&generate::page_input(number(seed)?, number(index)?)),
-        ["job-list", seed, first, count] => {
-            let line = |job: &_| job_list::due_line(&job::run(job));
-            jobs(number(seed)?, number(first)?, number(count)?, line)
+        ["job-list"] => answer(job_list::printed),
+        ["make-jobs", seed, first, count] => {
+            let (seed, first, count) = (number(seed)?, number(first)?, number(count)?);
+            let jobs = (first..first.saturating_add(count)).map(|index| generate::job(seed, index));
+            print(&jobs.flat_map(|job| job_list::entry(&job)).collect::<Vec<u8>>())
         }
-        ["pages", seed, count, program] => {
-            drive(drivers::pages, number(seed)?, number(count)?, program)
-        }
-        ["tickets", seed, count, program] => {
-            drive(drivers::tickets, number(seed)?, number(count)?, program)
-        }
-        ["numbers", seed, count, program] => {
-            drive(drivers::numbers, number(seed)?, number(count)?, program)
-        }
-        #[cfg(feature = "library")]
-        ["library", seed, count] => {
-            let itself = std::env::current_exe().ok()?;
-            drive(drivers::library, number(seed)?, number(count)?, itself.to_str()?)
-        }
-        #[cfg(feature = "library")]
-        ["library-list", seed, first, count] => {
-            jobs(number(seed)?, number(first)?, number(count)?, compare::library::line)
+        [word, seed, count, ref program @ ..] if !program.is_empty() => {
+            drive(driver(word)?, number(seed)?, number(count)?, program)
         }
         _ => return None,
     })
@@ -86,22 +73,19 @@ fn print(bytes: &[u8]) -> io::Result<ExitCode> {
     Ok(ExitCode::SUCCESS)
 }
 
-/// Each job's line leaves at once, so that the lines before a crash are seen.
-fn jobs(
-    seed: u64,
-    first: u64,
-    count: u64,
-    line: impl Fn(&job::Job) -> String,
-) -> io::Result<ExitCode> {
-    for index in first..first.saturating_add(count) {
-        print(line(&generate::job(seed, index)).as_bytes())?;
+type Driver = fn(u64, u64, &[&str], &mut dyn Write) -> io::Result<Trial>;
+
+fn driver(word: &str) -> Option<Driver> {
+    match word {
+        "pages" => Some(drivers::pages),
+        "tickets" => Some(drivers::tickets),
+        "numbers" => Some(drivers::numbers),
+        "jobs" => Some(drivers::jobs),
+        _ => None,
     }
-    Ok(ExitCode::SUCCESS)
 }
 
-type Driver = fn(u64, u64, &str, &mut dyn Write) -> io::Result<Trial>;
-
-fn drive(driver: Driver, seed: u64, count: u64, program: &str) -> io::Result<ExitCode> {
+fn drive(driver: Driver, seed: u64, count: u64, program: &[&str]) -> io::Result<ExitCode> {
     let trial = driver(seed, count, program, &mut io::stdout())?;
     print(trial.summary().as_bytes())?;
     Ok(ExitCode::from(u8::from(trial.differences > 0)))

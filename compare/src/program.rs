@@ -1,4 +1,4 @@
-//! Another program, run once over one input and held to a time limit.
+//! Another program, named with its arguments, run once over one input and held to a time limit.
 
 use std::io::{self, Read, Write};
 use std::os::unix::process::ExitStatusExt;
@@ -24,9 +24,11 @@ pub struct Run {
 /// Input and output have threads of their own: a program that prints before it has read all
 /// would otherwise stand still together with us. No thread is waited for past the limit, as a
 /// program's own children may keep a pipe open after its end.
-pub fn run(command: &mut Command, input: &[u8], limit: Duration) -> io::Result<Run> {
+pub fn run(program: &[&str], input: &[u8], limit: Duration) -> io::Result<Run> {
     let deadline = Instant::now() + limit;
-    let mut child = command.stdin(Stdio::piped()).stdout(Stdio::piped()).spawn()?;
+    let mut command = Command::new(program[0]);
+    command.args(&program[1..]).stdin(Stdio::piped()).stdout(Stdio::piped());
+    let mut child = command.spawn()?;
     let mut stdin = child.stdin.take().expect("standard input is piped");
     let stdout = child.stdout.take().expect("standard output is piped");
     let bytes = input.to_vec();

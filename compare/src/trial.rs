@@ -2,14 +2,13 @@
 
 use std::fmt::Write as _;
 use std::io::{self, Write};
-use std::process::Command;
 
 use crate::program::{self, Run, TIME_LIMIT};
 
 /// Differences told in full; the rest are only counted.
 const TOLD: u64 = 3;
-/// No right text is longer; of an endless one this much is told.
-const LONGEST_TOLD: usize = 1 << 20;
+/// Of a longer text only the beginning is told: its seed and index make it again.
+const LONGEST_TOLD: usize = 1 << 14;
 
 /// One generated input, as it is told, and the text due for it.
 pub struct Due {
@@ -54,12 +53,12 @@ impl Trial {
     /// Runs a program once, for all that is due in this run; tells the first differences.
     pub fn ask(
         &mut self,
-        command: &mut Command,
+        program: &[&str],
         input: &[u8],
         dues: &[Due],
         out: &mut dyn Write,
     ) -> io::Result<()> {
-        let run = program::run(command, input, TIME_LIMIT)?;
+        let run = program::run(program, input, TIME_LIMIT)?;
         self.hold(&run, dues, out)
     }
 
@@ -92,11 +91,13 @@ impl Trial {
             return Ok(());
         }
         writeln!(out, "difference at seed {} index {}", self.seed, due.index)?;
-        writeln!(out, "input {}\ndue:\n{}", due.input, due.text)?;
-        let part = &part[..part.len().min(LONGEST_TOLD)];
-        writeln!(out, "printed:\n{}", String::from_utf8_lossy(part))?;
+        let (input, text) = (due.input.as_bytes(), due.text.as_bytes());
+        writeln!(out, "input {}\ndue:\n{}", told(input), told(text))?;
+        let alike = text.iter().zip(part).take_while(|(due, printed)| due == printed).count();
+        writeln!(out, "printed, right up to byte {alike}:\n{}", told(part))?;
         if let Some(Run { flaw: Some(flaw), input, .. }) = bad_end {
-            writeln!(out, "the program {flaw}; the run's whole input: {}", hex(input))?;
+            let input = told(hex(input).as_bytes());
+            writeln!(out, "the program {flaw}; the run's whole input: {input}")?;
         }
         Ok(())
     }
@@ -123,6 +124,12 @@ fn parts(mut text: &[u8], count: usize) -> Vec<&[u8]> {
     }
     parts.push(text);
     parts
+}
+
+fn told(text: &[u8]) -> String {
+    let (beginning, rest) = text.split_at(text.len().min(LONGEST_TOLD));
+    let more = if rest.is_empty() { String::new() } else { format!(" and {} more", rest.len()) };
+    String::from_utf8_lossy(beginning).to_string() + &more
 }
 
 pub fn hex(bytes: &[u8]) -> String {

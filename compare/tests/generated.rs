@@ -4,7 +4,8 @@ use std::collections::BTreeSet;
 
 use compare::generate::{self, ticket_list};
 use compare::job::run;
-use compare::job_list::marks;
+use compare::job_list::{entry, first};
+use compare::marks;
 use compare::number_list::kind;
 use compare::page_program::{reply, Reply};
 use compare::placement::scratch_needed;
@@ -48,7 +49,8 @@ fn jobs_bring_all_that_is_counted_and_write_only_what_they_may() {
         let job = generate::job(3, index);
         let outcome = run(&job);
         numbers.insert(outcome.answer.refusal);
-        for (mark, holds) in marks(&job, &outcome) {
+        assert_eq!(first(&entry(&job)), Some((job.clone(), &[][..])));
+        for (mark, holds) in marks::of(&job, &outcome) {
             if index == 0 {
                 missed.insert(mark.clone());
             }

@@ -50,18 +50,18 @@ unfoldable pub judgeBoxes : ℕ → ℕ → List HiddenBox → ℕ → Answer �
 judgeBoxes w h [] k next = next
 judgeBoxes w h (b ∷ boxes) k next = unless (boxAllowed w h b) (BadBox k) (judgeBoxes w h boxes (suc k) next)
 
--- "Then 10, 11, 12, 13, and 14 over the boxes in order."
-unfoldable pub placed : Ticket → Placements → Lengths → Answer
-placed t p n =
+-- "Then 10, 11, 12, 13, and 14 over the boxes in order.": the first refusal, else what is next
+unfoldable pub placed : Ticket → Placements → Lengths → Answer → Answer
+placed t p n next =
     unless (allowed (sourcePage p) && allowed (outputPage p)) BadSides
     (unless (fits (sourcePage p) (n .source)) SourceTooShort
     (unless (fits (outputPage p) (n .output)) OutputTooShort
     (unless (leb (scratchNeeded (p .width) (p .height)) (n .scratch)) ScratchTooShort
-    (judgeBoxes (p .width) (p .height) (boxesOf t) 0 (Done (workOf t (p .width) (p .height)))))))
+    (judgeBoxes (p .width) (p .height) (boxesOf t) 0 next))))
 
--- refusals 1 to 9 come first
+-- refusals 1 to 9 come first; a page that nothing refuses is finished
 unfoldable pub answerUnder : Verdict → List ℕ → Placements → Lengths → Answer
-answerUnder Good ticket p n = placed (shown ticket) p n
+answerUnder Good ticket p n = placed (shown ticket) p n (Done (workOf (shown ticket) (p .width) (p .height)))
 answerUnder (Refused fault at) ticket p n = BadTicket fault at
 
 unfoldable pub answer : List ℕ → Placements → Lengths → Answer

@@ -8,13 +8,13 @@ use Prim.Native.Nat.{ℕ, _+_, _-_, _*_, _≤_, _<_}
 use native.Mathlib.Nat.{mul-le-mul-right}
 use native.Mathlib.Decide.{decLt}
 use native.Mathlib.Omega.{arith}
-use lib.ListN.{length, getD}
-use borrow.Rule.Slice.PartMut.{putMid}
+use lib.ListN.{length, getD, replicate, length-replicate, getD-replicate}
+use borrow.Rule.Slice.PartMut.{midOf, putMid}
 use Rattle.tray.specs.declared.boxes.Rectangle.{Rectangle}
 use Rattle.tray.specs.Turned.{Within, acrossOf, turnedBox}
 use Rattle.tray.specs.Promises.{Painted, OnPage, BoxPainted}
 use Rattle.tray.specs.Laws.{OnCompact, cell-below, on-compact, box-painted}
-use Rattle.tray.proofs.Lent.{lent-length, lent-below, lent-within, lent-above}
+use Rattle.tray.proofs.Lent.{part-length, lent-length, lent-below, lent-within, lent-above}
 
 abbrev pub rows : ℕ → ℕ → ℕ → ℕ → Rectangle
 rows top left right r = record { top = top; bottom = r; left = left; right = right }
@@ -26,7 +26,7 @@ painted-none w top left right value page =
 
 module _ (w top left right value r : ℕ) (before page ys : List ℕ) where
   -- one row more
-  pub painted-more :
+  painted-more :
       top ≤ r → left ≤ right → right ≤ w → (r + 1) * w ≤ length page → length ys ≡ right - left
       → ((k : ℕ) → k < right - left → getD ys k 0 ≡ value) → Painted w (rows top left right r) value before page
       → Painted w (rows top left right (r + 1)) value before (putMid (r * w + left) (right - left) page ys)
@@ -77,6 +77,21 @@ module _ (w top left right value r : ℕ) (before page ys : List ℕ) where
         where
           above : (a b : ℕ) → r * w + right ≤ a * w + b → getD (putMid (r * w + left) (right - left) page ys) (a * w + b) 0 ≡ getD page (a * w + b) 0
           above a b l = lent-above (r * w + left) (right - left) page ys room-now long (a * w + b) (omega arith)
+
+-- the same where the part that was lent starts at at and is n long, and was filled whole
+pub painted-row :
+    (w top left right value r at n : ℕ) (before page ys : List ℕ) → ys ≡ replicate (length (midOf at n page)) value → at ≡ r * w + left
+    → n ≡ right - left → top ≤ r → left ≤ right → right ≤ w → (r + 1) * w ≤ length page
+    → Painted w (rows top left right r) value before page → Painted w (rows top left right (r + 1)) value before (putMid at n page ys)
+painted-row w top left right value r at n before page ys filled starts wide top-in left-in right-in room so-far =
+    let part : length (midOf at n page) ≡ right - left = part-length at n page (omega arith) ∙ wide in
+    let whole : ys ≡ replicate (right - left) value = filled ∙ ap (λ (k : ℕ). replicate k value) part in
+    subst (λ (k : ℕ). Painted w (rows top left right (r + 1)) value before (putMid k n page ys)) (sym starts)
+    (subst (λ (k : ℕ). Painted w (rows top left right (r + 1)) value before (putMid (r * w + left) k page ys)) (sym wide)
+    (painted-more w top left right value r before page ys top-in left-in right-in room
+    (ap length whole ∙ length-replicate (right - left) value)
+    (λ k k-in. ap (λ (zs : List ℕ). getD zs k 0) whole ∙ getD-replicate (right - left) k value 0 k-in)
+    so-far))
 
 -- ---- a box, by the rectangle that it was turned into
 

@@ -24,7 +24,7 @@ use lib.Seq.{ext-getD, getD-take, getD-drop, getD-append-add}
 use lib.Dec.{leb, ltb}
 use borrow.Author.Tests.{leb-true, ltb-true, le-leb, lt-ltb}
 use Rattle.tray.specs.declared.Placement.{Placement}
-use Rattle.tray.specs.Placement.{rowStart, byteOf, pixelIn, sideAllowed, allowed, fits, longestSide, longestStride}
+use Rattle.tray.specs.Placement.{rowStart, byteOf, pixelIn, sideAllowed, allowed, fits}
 use Rattle.tray.specs.Written.{columnOf, rowOf, inside, writtenFrom, written, cleared}
 use Rattle.tray.specs.declared.boxes.Rectangle.{Rectangle}
 use Rattle.tray.specs.Promises.{Placed, Painted, OnPage, BoxPainted}

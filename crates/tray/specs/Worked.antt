@@ -8,7 +8,7 @@ use mathlib.Core.List.{List, [], _∷_, map}
 use Rattle.tray.specs.Placement.{allowed, sideAllowed, fits, scratchNeeded}
 use Rattle.tray.specs.Written.{columnOf, rowOf, inside, writtenFrom, written, cleared}
 use Rattle.geometry.specs.Drift.{mirrored}
-use Rattle.tray.specs.Turned.{downOf, acrossOf, compactColumn, compactAt, boxed, mirroredFrom, mirroredTo, turnedBox, }
+use Rattle.tray.specs.Turned.{downOf, acrossOf, compactColumn, compactAt, boxed, mirroredFrom, mirroredTo, turnedBox}
 use Rattle.tray.specs.declared.Placement.{Placement}
 
 abbrev middle : Placement

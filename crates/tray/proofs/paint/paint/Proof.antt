@@ -1,15 +1,12 @@
 -- `tray::paint::paint` meets its contract. The invariant: the rows from top to just above r are painted, and nothing else. Assumes nothing.
-use mathlib.Core.Path.{_≡_, sym, _∙_, ap, subst}
-use mathlib.Core.List.{List}
-use Prim.Native.Nat.{ℕ, _+_, _-_, _*_, _≤_, _<_}
+use mathlib.Core.Path.{_≡_, refl, subst}
+use Prim.Native.Nat.{ℕ, _+_, _-_, _*_, _≤_}
 use native.Mathlib.Nat.{mul-le-mul-right}
 use native.Mathlib.Omega.{arith}
 use borrow.Author.Needs.{needs}
-use borrow.Rule.Slice.PartMut.{midOf, putMid}
-use lib.ListN.{length, getD, replicate, length-replicate, getD-replicate}
+use lib.ListN.{length}
 use Rattle.tray.specs.Promises.{Painted}
-use Rattle.tray.proofs.Lent.{part-length}
-use Rattle.tray.proofs.Painting.{rows, painted-none, painted-more}
+use Rattle.tray.proofs.Painting.{rows, painted-none, painted-row}
 use Rattle.tray.proofs.paint.paint.Statement.{statement}
 use Rattle.tray.proofs.paint.paint.Tie as tie
 
@@ -51,22 +48,10 @@ loop-again c =
     let s = turn .before .before .before in
     let a = s .args in
     let l = turn .before .loop in
-    let last = c .before .before .fill .last .0 in
-    let at = l .r * a .w + a .left in
-    let n = a .right - a .left in
-    let in-row = room turn in
-    let wide : l .r * a .w + a .right - at ≡ n = omega arith in
-    let fits : at + n ≤ length (l .page) = omega (arith, s .pre .1, s .pre .2) in
-    let filled : last ≡ replicate n (a .value) =
-    c .before .before .fill .ensures
-    ∙ ap (λ (k : ℕ). replicate (length (midOf at k (l .page))) (a .value)) wide
-    ∙ ap (λ (k : ℕ). replicate k (a .value)) (part-length at n (l .page) fits) in
-    let long : length last ≡ n = ap length filled ∙ length-replicate n (a .value) in
-    let all : (k : ℕ) → k < n → getD last k 0 ≡ a .value = λ k k-in. ap (λ (ys : List ℕ). getD ys k 0) filled ∙ getD-replicate n k (a .value) 0 k-in in (
+    let at = l .r * a .w + a .left in (
       omega arith,
       omega (arith, turn .loop-test .taken),
-      subst (λ (k : ℕ). Painted (a .w) (rows (a .top) (a .left) (a .right) (l .r + 1)) (a .value) (a .page .now) (putMid at k (l .page) last)) (sym wide)
-          (painted-more (a .w) (a .top) (a .left) (a .right) (a .value) (l .r) (a .page .now) (l .page) last (l .inv .0) (s .pre .1) (s .pre .2) in-row long all (l .inv .2)),
+      painted-row (a .w) (a .top) (a .left) (a .right) (a .value) (l .r) at (l .r * a .w + a .right - at) (a .page .now) (l .page) _ (c .before .before .fill .ensures) refl (omega arith) (l .inv .0) (s .pre .1) (s .pre .2) (room turn) (l .inv .2),
     )
 
 returns : tie.Need-returns Inv-loop μ-loop

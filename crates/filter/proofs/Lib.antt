@@ -1,0 +1,7 @@
+pub mod Bridge
+pub mod Charges
+pub mod Extremes
+pub mod Judging
+pub mod Neutral
+pub mod Passes
+pub mod Steps
