@@ -1,9 +1,5 @@
 // Calls the library for each job on standard input and prints one line a job: refusal, place and
 // work, the whole output tray and the whole scratch in hex, and last what was wrongly changed.
-//
-// A job is ten numbers of eight bytes, the lowest byte first, as x86-64 keeps them: ticket length,
-// width, height, source offset and stride, output offset and stride, and the lengths of source,
-// output and scratch. Then come the bytes of ticket, source, output and scratch.
 
 #include <inttypes.h>
 #include <stdio.h>
@@ -20,98 +16,83 @@ struct answer sotrugla_run(const uint8_t *ticket, size_t ticket_length, uint64_t
                            size_t source_length, uint8_t *output, size_t output_length,
                            uint8_t *scratch, size_t scratch_length);
 
+enum { TICKET, SOURCE, OUTPUT, SCRATCH, BUFFERS };
+static const char *const names[BUFFERS] = {"ticket", "source", "output", "scratch"};
+
+// A job on standard input is these numbers, the lowest byte first as x86-64 keeps them, and then
+// the bytes of the four buffers.
+struct job {
+    uint64_t width, height, source_offset, source_stride, output_offset, output_stride;
+    uint64_t lengths[BUFFERS];
+};
+
 // Bytes on each side of a lent buffer that nobody may write.
 enum { MARGIN = 64 };
 
-// A lent buffer, its length, and a copy of it as it was; both stand between margins.
+// A lent buffer and a copy of it as it was, both between margins.
 struct lent {
     uint8_t *bytes, *copy;
     size_t length;
 };
 
-static void stop(const char *why)
-{
-    fprintf(stderr, "host: %s\n", why);
-    exit(2);
-}
-
-static uint8_t *room(size_t length)
-{
-    uint8_t *bytes = malloc(length + 2 * MARGIN);
-    if (!bytes)
-        stop("no memory");
-    memset(bytes, 0xA5, length + 2 * MARGIN);
-    return bytes + MARGIN;
-}
-
 static struct lent lend(size_t length)
 {
-    struct lent lent = {room(length), room(length), length};
-    if (fread(lent.bytes, 1, length, stdin) != length)
-        stop("the input ends inside a job");
-    memcpy(lent.copy, lent.bytes, length);
-    return lent;
-}
-
-static void give_back(struct lent lent)
-{
-    free(lent.bytes - MARGIN);
-    free(lent.copy - MARGIN);
-}
-
-static int changed(struct lent lent)
-{
-    return memcmp(lent.bytes, lent.copy, lent.length) != 0;
-}
-
-static int margin_changed(struct lent lent)
-{
-    return memcmp(lent.bytes - MARGIN, lent.copy - MARGIN, MARGIN) != 0 ||
-           memcmp(lent.bytes + lent.length, lent.copy + lent.length, MARGIN) != 0;
+    size_t room = MARGIN + length + MARGIN;
+    uint8_t *bytes = malloc(room), *copy = malloc(room);
+    if (!bytes || !copy)
+        abort();
+    memset(bytes, 0xA5, room);
+    if (fread(bytes + MARGIN, 1, length, stdin) != length)
+        abort();
+    memcpy(copy, bytes, room);
+    return (struct lent){bytes + MARGIN, copy + MARGIN, length};
 }
 
 static void print_hex(const char *name, struct lent lent)
 {
-    const char *digits = "0123456789abcdef";
     printf(" %s ", name);
     for (size_t at = 0; at < lent.length; at++) {
-        putchar(digits[lent.bytes[at] >> 4]);
-        putchar(digits[lent.bytes[at] & 15]);
+        putchar("0123456789abcdef"[lent.bytes[at] >> 4]);
+        putchar("0123456789abcdef"[lent.bytes[at] & 15]);
     }
 }
 
-static void run(const uint64_t n[10])
+static void take_back(const char *name, struct lent lent, int may_change)
 {
-    struct lent ticket = lend(n[0]), source = lend(n[7]), output = lend(n[8]), scratch = lend(n[9]);
-    struct answer answer =
-        sotrugla_run(ticket.bytes, ticket.length, n[1], n[2], n[3], n[4], n[5], n[6], source.bytes,
-                     source.length, output.bytes, output.length, scratch.bytes, scratch.length);
+    uint8_t *bytes = lent.bytes - MARGIN, *copy = lent.copy - MARGIN;
+    if (!may_change && memcmp(lent.bytes, lent.copy, lent.length) != 0)
+        printf(" %s changed", name);
+    if (memcmp(bytes, copy, MARGIN) != 0 ||
+        memcmp(lent.bytes + lent.length, lent.copy + lent.length, MARGIN) != 0)
+        printf(" margin of %s changed", name);
+    free(bytes);
+    free(copy);
+}
+
+static void run(const struct job *job)
+{
+    struct lent lent[BUFFERS];
+    for (int i = 0; i < BUFFERS; i++)
+        lent[i] = lend(job->lengths[i]);
+    struct answer answer = sotrugla_run(
+        lent[TICKET].bytes, lent[TICKET].length, job->width, job->height, job->source_offset,
+        job->source_stride, job->output_offset, job->output_stride, lent[SOURCE].bytes,
+        lent[SOURCE].length, lent[OUTPUT].bytes, lent[OUTPUT].length, lent[SCRATCH].bytes,
+        lent[SCRATCH].length);
     printf("%" PRIu64 " %" PRIu64 " %" PRIu64, answer.refusal, answer.place, answer.work);
-    print_hex("output", output);
-    print_hex("scratch", scratch);
-    if (changed(ticket))
-        printf(" ticket changed");
-    if (changed(source))
-        printf(" source changed");
-    if (margin_changed(ticket) || margin_changed(source) || margin_changed(output) ||
-        margin_changed(scratch))
-        printf(" margin changed");
+    print_hex("output", lent[OUTPUT]);
+    print_hex("scratch", lent[SCRATCH]);
+    for (int i = 0; i < BUFFERS; i++)
+        take_back(names[i], lent[i], i == OUTPUT || i == SCRATCH);
     // The line leaves at once, so that the lines before a crash are seen.
     printf("\n");
     fflush(stdout);
-    give_back(ticket);
-    give_back(source);
-    give_back(output);
-    give_back(scratch);
 }
 
 int main(void)
 {
-    uint64_t numbers[10];
-    size_t bytes;
-    while ((bytes = fread(numbers, 1, sizeof numbers, stdin)) == sizeof numbers)
-        run(numbers);
-    if (bytes > 0)
-        stop("the input ends inside a job");
+    struct job job;
+    while (fread(&job, sizeof job, 1, stdin) == 1)
+        run(&job);
     return 0;
 }

@@ -1,7 +1,7 @@
 //! Other programs run over generated inputs and held against this reading. Each is named by its
 //! path and its arguments.
 
-use std::io::{self, Write};
+use std::io;
 
 use crate::generate::{self, TicketList};
 use crate::page_program::reply;
@@ -10,11 +10,13 @@ use crate::ticket_list::LONGEST_LIST;
 use crate::trial::{hex, Due, Trial};
 use crate::{job, job_list, marks, number_list, ticket_list};
 
+pub type Driver = fn(u64, u64, &[&str]) -> io::Result<Trial>;
+
 /// Jobs for one run of a job program.
 const JOBS_A_RUN: usize = 50;
 
 /// The page program, one run an input.
-pub fn pages(seed: u64, count: u64, program: &[&str], out: &mut dyn Write) -> io::Result<Trial> {
+pub fn pages(seed: u64, count: u64, program: &[&str]) -> io::Result<Trial> {
     let mut trial = Trial::new(seed, count, "inputs");
     trial.expect(&["done"]);
     trial.expect_refusals(BOX_OFF_PAGE);
@@ -24,13 +26,13 @@ pub fn pages(seed: u64, count: u64, program: &[&str], out: &mut dyn Write) -> io
         let due = reply(&input);
         trial.count(&due.kind(), 1);
         let due = Due { index, input: hex(&input), text: due.printed() };
-        trial.ask(program, &input, &[due], out)?;
+        trial.ask(program, &input, &[due])?;
     }
     Ok(trial)
 }
 
 /// The ticket program, as many tickets a run as it reads.
-pub fn tickets(seed: u64, count: u64, program: &[&str], out: &mut dyn Write) -> io::Result<Trial> {
+pub fn tickets(seed: u64, count: u64, program: &[&str]) -> io::Result<Trial> {
     let mut trial = Trial::new(seed, count, "tickets");
     trial.expect(&["ticket"]);
     trial.expect_refusals(PHASE);
@@ -50,7 +52,7 @@ pub fn tickets(seed: u64, count: u64, program: &[&str], out: &mut dyn Write) -> 
         trial.count("cut", u64::from(list.cut));
         trial.count("runs", 1);
         trial.count("runs of 65536 bytes", u64::from(list.bytes.len() == LONGEST_LIST));
-        trial.ask(program, &list.bytes, &dues, out)?;
+        trial.ask(program, &list.bytes, &dues)?;
         if first == count {
             return Ok(trial);
         }
@@ -59,21 +61,21 @@ pub fn tickets(seed: u64, count: u64, program: &[&str], out: &mut dyn Write) -> 
 }
 
 /// The number program, one run a line sample.
-pub fn numbers(seed: u64, count: u64, program: &[&str], out: &mut dyn Write) -> io::Result<Trial> {
+pub fn numbers(seed: u64, count: u64, program: &[&str]) -> io::Result<Trial> {
     let mut trial = Trial::new(seed, count, "line samples");
     trial.expect(&["numbers, connected", "numbers, periodic", "bad input"]);
     for index in 0..count {
         let input = generate::number_input(seed, index);
         trial.count(number_list::kind(&input), 1);
         let due = Due { index, input: hex(&input), text: number_list::printed(&input) };
-        trial.ask(program, &input, &[due], out)?;
+        trial.ask(program, &input, &[due])?;
     }
     Ok(trial)
 }
 
 /// The job program, many jobs a run; it prints a job's line as soon as the job is done, so that a
 /// job that crashes or does not come back is told.
-pub fn jobs(seed: u64, count: u64, program: &[&str], out: &mut dyn Write) -> io::Result<Trial> {
+pub fn jobs(seed: u64, count: u64, program: &[&str]) -> io::Result<Trial> {
     let mut trial = Trial::new(seed, count, "jobs");
     let indices: Vec<u64> = (0..count).collect();
     for indices in indices.chunks(JOBS_A_RUN) {
@@ -88,7 +90,7 @@ pub fn jobs(seed: u64, count: u64, program: &[&str], out: &mut dyn Write) -> io:
             let text = job_list::line(&outcome);
             dues.push(Due { index, input: job_list::told(&job), text });
         }
-        trial.ask(program, &list, &dues, out)?;
+        trial.ask(program, &list, &dues)?;
     }
     Ok(trial)
 }

@@ -7,51 +7,37 @@ use crate::trial::hex;
 /// A job in bytes, as `host.c` reads it: ten numbers of eight bytes, the lowest byte first, then
 /// the bytes of ticket, source, output and scratch.
 pub fn entry(job: &Job) -> Vec<u8> {
-    let [ticket, source, output, scratch] = [&job.ticket, &job.source, &job.output, &job.scratch];
-    let numbers = [
-        ticket.len() as u64,
-        job.width,
-        job.height,
-        job.source_offset,
-        job.source_stride,
-        job.output_offset,
-        job.output_stride,
-        source.len() as u64,
-        output.len() as u64,
-        scratch.len() as u64,
-    ];
-    [&numbers.map(u64::to_le_bytes).concat(), ticket, source, output, scratch]
-        .map(Vec::as_slice)
-        .concat()
+    let buffers = [&job.ticket, &job.source, &job.output, &job.scratch].map(Vec::as_slice);
+    let source = [job.source_offset, job.source_stride];
+    let output = [job.output_offset, job.output_stride];
+    let lengths = buffers.map(|bytes| bytes.len() as u64);
+    let numbers = [&[job.width, job.height][..], &source, &output, &lengths].concat();
+    numbers.into_iter().flat_map(u64::to_le_bytes).chain(buffers.concat()).collect()
 }
 
 /// The first entry's job and what comes after it; nothing if the list ends inside the entry.
-pub fn first(mut list: &[u8]) -> Option<(Job, &[u8])> {
-    let mut part = |length: u64| {
-        let part = list.get(..length as usize)?;
-        list = &list[part.len()..];
+pub fn first(list: &[u8]) -> Option<(Job, &[u8])> {
+    let (head, mut rest) = (list.get(..80)?, list.get(80..)?);
+    let number = |bytes: &[u8]| u64::from_le_bytes(bytes.try_into().expect("eight bytes"));
+    let numbers: Vec<u64> = head.chunks(8).map(number).collect();
+    let mut part = |at: usize| {
+        let part = rest.get(..numbers[at] as usize)?;
+        rest = &rest[part.len()..];
         Some(part.to_vec())
     };
-    let mut numbers = [0; 10];
-    for number in &mut numbers {
-        *number = u64::from_le_bytes(part(8)?.try_into().ok()?);
-    }
-    let [ticket, width, height, source_offset, source_stride, output_offset, output_stride, ..] =
-        numbers;
-    let [.., source, output, scratch] = numbers;
     let job = Job {
-        ticket: part(ticket)?,
-        width,
-        height,
-        source_offset,
-        source_stride,
-        output_offset,
-        output_stride,
-        source: part(source)?,
-        output: part(output)?,
-        scratch: part(scratch)?,
+        width: numbers[0],
+        height: numbers[1],
+        source_offset: numbers[2],
+        source_stride: numbers[3],
+        output_offset: numbers[4],
+        output_stride: numbers[5],
+        ticket: part(6)?,
+        source: part(7)?,
+        output: part(8)?,
+        scratch: part(9)?,
     };
-    Some((job, list))
+    Some((job, rest))
 }
 
 pub fn printed(mut list: &[u8]) -> String {

@@ -3,8 +3,8 @@
 use std::io::{self, Read, Write};
 use std::process::ExitCode;
 
+use compare::drivers::Driver;
 use compare::page_program::reply;
-use compare::trial::Trial;
 use compare::{drivers, generate, job_list, number_list, ticket_list};
 
 const USAGE: &str = "usage:
@@ -73,8 +73,6 @@ fn print(bytes: &[u8]) -> io::Result<ExitCode> {
     Ok(ExitCode::SUCCESS)
 }
 
-type Driver = fn(u64, u64, &[&str], &mut dyn Write) -> io::Result<Trial>;
-
 fn driver(word: &str) -> Option<Driver> {
     match word {
         "pages" => Some(drivers::pages),
@@ -86,7 +84,7 @@ fn driver(word: &str) -> Option<Driver> {
 }
 
 fn drive(driver: Driver, seed: u64, count: u64, program: &[&str]) -> io::Result<ExitCode> {
-    let trial = driver(seed, count, program, &mut io::stdout())?;
+    let trial = driver(seed, count, program)?;
     print(trial.summary().as_bytes())?;
     Ok(ExitCode::from(u8::from(trial.differences > 0)))
 }

@@ -15,7 +15,6 @@ const MOST_PRINTED: u64 = 1 << 26;
 const LAST_WORDS: Duration = Duration::from_millis(200);
 
 pub struct Run {
-    pub input: Vec<u8>,
     pub printed: Vec<u8>,
     /// How the program ended if not by itself: a difference even where its text is right.
     pub flaw: Option<String>,
@@ -51,7 +50,7 @@ pub fn run(program: &[&str], input: &[u8], limit: Duration) -> io::Result<Run> {
         Some(signal) => Some(format!("ended by signal {signal}")),
         None => None,
     };
-    Ok(Run { input: input.to_vec(), printed, flaw })
+    Ok(Run { printed, flaw })
 }
 
 /// Whether the program ends before the deadline.

@@ -1,7 +1,7 @@
 //! What another program printed, held against what was due.
 
 use std::fmt::Write as _;
-use std::io::{self, Write};
+use std::io;
 
 use crate::program::{self, Run, TIME_LIMIT};
 
@@ -50,56 +50,40 @@ impl Trial {
         (1..=last).for_each(|number| self.count(&format!("refused {number}"), 0));
     }
 
-    /// Runs a program once, for all that is due in this run; tells the first differences.
-    pub fn ask(
-        &mut self,
-        program: &[&str],
-        input: &[u8],
-        dues: &[Due],
-        out: &mut dyn Write,
-    ) -> io::Result<()> {
-        let run = program::run(program, input, TIME_LIMIT)?;
-        self.hold(&run, dues, out)
-    }
-
-    /// Each text due is one line, but the last, which must be all the rest. A bad end is told at
-    /// the first line that is not whole, or at the last; what would come later is left out.
-    pub fn hold(&mut self, run: &Run, dues: &[Due], out: &mut dyn Write) -> io::Result<()> {
-        let parts = parts(&run.printed, dues.len());
+    /// Runs a program once, for all that is due in this run. Each text due is one line, but the
+    /// last, which must be all the rest. A bad end is told at the first line that is not whole, or
+    /// at the last; what would come later is left out.
+    pub fn ask(&mut self, program: &[&str], input: &[u8], dues: &[Due]) -> io::Result<()> {
+        let Run { printed, flaw } = program::run(program, input, TIME_LIMIT)?;
+        let parts = parts(&printed, dues.len());
         let end = parts.iter().position(|part| !part.ends_with(b"\n")).unwrap_or(dues.len() - 1);
         for (at, (due, part)) in dues.iter().zip(parts).enumerate() {
-            if run.flaw.is_some() && at == end {
-                return self.differ(due, part, Some(run), out);
+            if flaw.is_some() && at == end {
+                self.differ(due, part, flaw);
+                break;
             } else if due.text.as_bytes() != part {
-                self.differ(due, part, None, out)?;
+                self.differ(due, part, None);
             }
         }
         Ok(())
     }
 
-    fn differ(
-        &mut self,
-        due: &Due,
-        part: &[u8],
-        bad_end: Option<&Run>,
-        out: &mut dyn Write,
-    ) -> io::Result<()> {
+    /// Prints the first differences at once, not with the summary: more runs may take long.
+    fn differ(&mut self, due: &Due, part: &[u8], flaw: Option<String>) {
         self.differences += 1;
-        self.bad_ends += u64::from(bad_end.is_some());
+        self.bad_ends += u64::from(flaw.is_some());
         // The first bad ends are told even if many texts differed before.
-        if TOLD < if bad_end.is_some() { self.bad_ends } else { self.differences } {
-            return Ok(());
+        if TOLD < if flaw.is_some() { self.bad_ends } else { self.differences } {
+            return;
         }
-        writeln!(out, "difference at seed {} index {}", self.seed, due.index)?;
+        println!("difference at seed {} index {}", self.seed, due.index);
         let (input, text) = (due.input.as_bytes(), due.text.as_bytes());
-        writeln!(out, "input {}\ndue:\n{}", told(input), told(text))?;
+        println!("input {}\ndue:\n{}", told(input), told(text));
         let alike = text.iter().zip(part).take_while(|(due, printed)| due == printed).count();
-        writeln!(out, "printed, right up to byte {alike}:\n{}", told(part))?;
-        if let Some(Run { flaw: Some(flaw), input, .. }) = bad_end {
-            let input = told(hex(input).as_bytes());
-            writeln!(out, "the program {flaw}; the run's whole input: {input}")?;
+        println!("printed, right up to byte {alike}:\n{}", told(part));
+        if let Some(flaw) = flaw {
+            println!("the program {flaw}");
         }
-        Ok(())
     }
 
     /// One line for all inputs, one for each kind of answer, and one for runs that ended badly.

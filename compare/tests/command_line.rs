@@ -6,8 +6,7 @@ use std::process::{Command, Output, Stdio};
 use std::time::Duration;
 
 use compare::generate::{job, page_input};
-use compare::trial::Trial;
-use compare::{drivers, job_list, program};
+use compare::{job_list, program};
 
 const COMPARE: &str = env!("CARGO_BIN_EXE_compare");
 
@@ -19,24 +18,6 @@ fn compare(words: &[&str], input: &[u8]) -> Output {
     stdin.write_all(input).expect("the input is short");
     drop(stdin);
     child.wait_with_output().expect("compare ends")
-}
-
-/// A shell's text in which `compare` is this program.
-fn script(text: &str) -> String {
-    text.replace("compare", &format!("'{COMPARE}'"))
-}
-
-type Driver = fn(u64, u64, &[&str], &mut dyn Write) -> std::io::Result<Trial>;
-
-/// What a driver counts and tells of a program that is a shell's text.
-fn trial(driver: Driver, seed: u64, count: u64, text: &str) -> (Trial, String) {
-    let mut out = Vec::new();
-    let trial = driver(seed, count, &["sh", "-c", &script(text)], &mut out).expect("it starts");
-    (trial, String::from_utf8_lossy(&out).to_string())
-}
-
-fn times(trial: &Trial, kind: &str) -> u64 {
-    trial.tally.iter().find(|(known, _)| known == kind).expect("a kind that is counted").1
 }
 
 #[test]
@@ -69,12 +50,20 @@ fn words_that_say_nothing() {
     }
 }
 
-/// The summary's first line and the exit status of a driver.
-fn driven(word: &str, count: u64, program: &[&str]) -> (String, Option<i32>) {
-    let output = compare(&[&[word, "1", &count.to_string()], program].concat(), b"");
+/// What a driver prints of a program, and how many differences; these decide its exit status.
+fn driven(word: &str, count: u64, program: &[&str]) -> (String, u64) {
+    let output = compare(&[&[word, "2", &count.to_string()], program].concat(), b"");
     let text = String::from_utf8_lossy(&output.stdout).to_string();
-    let first = text.lines().find(|line| line.ends_with(" differences")).unwrap_or("");
-    (first.to_string(), output.status.code())
+    let number = |line: &str| line.strip_suffix(" differences")?.split(' ').last()?.parse().ok();
+    let differences = text.lines().find_map(number).expect("a summary");
+    assert_eq!(output.status.code(), Some(i32::from(differences > 0)));
+    (text, differences)
+}
+
+/// The same of a shell's text, in which `compare` is this program.
+fn by_shell(word: &str, count: u64, text: &str) -> (String, u64) {
+    let text = text.replace("compare", &format!("'{COMPARE}'"));
+    driven(word, count, &["sh", "-c", &text])
 }
 
 #[test]
@@ -85,33 +74,29 @@ fn drivers_agree_with_this_reading() {
         ("numbers", 60, "number-list", "60 line samples"),
         ("jobs", 120, "job-list", "120 jobs"),
     ] {
-        let due = (format!("{what}, 0 differences"), Some(0));
-        assert_eq!(driven(word, count, &[COMPARE, answers]), due);
+        let (text, _) = driven(word, count, &[COMPARE, answers]);
+        assert!(text.starts_with(&format!("{what}, 0 differences\n")), "{text}");
         // A program that reads nothing and prints nothing blocks nobody.
-        assert_eq!(driven(word, count, &["true"]).1, Some(1));
-        let crash = script(&format!("compare {answers}; kill -9 $$"));
-        let (first, status) = driven(word, count, &["sh", "-c", &crash]);
-        assert!(!first.ends_with(" 0 differences") && status == Some(1), "{first}");
+        assert!(driven(word, count, &["true"]).1 > 0);
+        assert!(by_shell(word, count, &format!("compare {answers}; kill -9 $$")).1 > 0);
     }
-    assert_eq!(driven("pages", 60, &["true"]).0, "60 inputs, 60 differences");
+    assert_eq!(driven("pages", 60, &["true"]).1, 60);
 }
 
 #[test]
 fn wrong_texts_are_told() {
     let refused_3 = "compare ticket-list | sed 's/^refused 5/refused 3/'";
-    let (wrong, told) = trial(drivers::tickets, 2, 4000, refused_3);
-    assert!(wrong.differences > 0 && wrong.differences == times(&wrong, "refused 5"));
+    let (told, differences) = by_shell("tickets", 4000, refused_3);
+    assert!(differences > 0 && told.contains(&format!("\nrefused 5: {differences}\n")));
     assert_eq!(told.matches("difference at seed 2 index").count(), 3);
-    assert!(
-        told.contains("due:\nrefused 5 at 734\n\nprinted, right up to byte 8:\nrefused 3 at 734\n")
-    );
-    let (uncut, _) = trial(drivers::tickets, 2, 4000, "compare ticket-list | sed '/cut/d'");
-    assert!(uncut.differences > 0 && uncut.differences == times(&uncut, "cut"));
-    let (one_more, _) = trial(drivers::tickets, 2, 4000, "compare ticket-list; echo");
-    assert_eq!(one_more.differences, times(&one_more, "runs"));
+    let texts = "due:\nrefused 5 at 734\n\nprinted, right up to byte 8:\nrefused 3 at 734\n";
+    assert!(told.contains(texts));
+    let (told, differences) = by_shell("tickets", 4000, "compare ticket-list | sed '/cut/d'");
+    assert!(differences > 0 && told.contains(&format!("\ncut: {differences}\n")));
+    let (told, differences) = by_shell("tickets", 4000, "compare ticket-list; echo");
+    assert!(told.contains(&format!("\nruns: {differences}\n")));
     let swapped = r"compare number-list | sed 's#\([0-9]*\)/\([0-9]*\)#\2/\1#g'";
-    let (swapped, _) = trial(drivers::numbers, 2, 100, swapped);
-    assert!((20..100).contains(&swapped.differences));
+    assert!((20..100).contains(&by_shell("numbers", 100, swapped).1));
 }
 
 #[test]
@@ -119,16 +104,13 @@ fn lines_of_jobs_are_compared_whole() {
     for (wrong, least) in
         [("/..$/00/", 20), ("/^0 0 [0-9]*/0 0 7/", 20), ("/$/ source changed/", 120)]
     {
-        let (wrong, _) =
-            trial(drivers::jobs, 3, 120, &format!("compare job-list | sed 's{wrong}'"));
-        assert!(wrong.differences >= least && wrong.bad_ends == 0);
+        assert!(by_shell("jobs", 120, &format!("compare job-list | sed 's{wrong}'")).1 >= least);
     }
     // The eleventh job of each run crashes.
-    let crash = "compare job-list | sed -n 1,10p; kill -SEGV $$";
-    let (crash, told) = trial(drivers::jobs, 3, 120, crash);
-    assert_eq!((crash.differences, crash.bad_ends), (3, 3));
-    assert!([10, 60, 110].iter().all(|at| told.contains(&format!("at seed 3 index {at}\n"))));
-    assert!(told.contains("ended by signal 11"));
+    let (told, _) = by_shell("jobs", 120, "compare job-list | sed -n 1,10p; kill -SEGV $$");
+    assert!([10, 60, 110].iter().all(|at| told.contains(&format!("at seed 2 index {at}\n"))));
+    assert_eq!(told.matches("the program ended by signal 11").count(), 3);
+    assert!(told.contains("120 jobs, 3 differences\n") && told.ends_with("time limit: 3\n"));
 }
 
 #[test]

@@ -259,17 +259,16 @@ fn jobs_end_to_end() {
     let good = draft(OPEN, 2, 0).bytes();
     let job = Job { output_offset: u64::MAX - 1, ..job_of(&ROW, good.clone()) };
     let bytes = job_list::entry(&job);
-    let numbers = [30, 3, 1, 4, 5, u64::MAX - 1, 3, 7, 6, 16u64];
+    let numbers = [3, 1, 4, 5, u64::MAX - 1, 3, 30, 7, 6, 16u64];
     assert_eq!(bytes[..80], numbers.map(u64::to_le_bytes).concat());
     assert_eq!(bytes[80..], [good, job.source, job.output, job.scratch].concat());
     let list = [bytes, job_list::entry(&job_of(&ROW, vec![]))].concat();
     for length in 0..=list.len() {
-        let lines = usize::from(length >= 139) + usize::from(length == 248);
-        assert_eq!(job_list::printed(&list[..length]).lines().count(), lines);
+        let lines = job_list::printed(&list[..length]).lines().count();
+        assert_eq!(lines, usize::from(length >= 139) + usize::from(length == 248));
     }
-    let lines = job_list::printed(&list);
     let kept = format!("output {} scratch {}", "4d".repeat(6), "58".repeat(16));
-    assert_eq!(lines, format!("12 0 0 {kept}\n1 0 0 {kept}\n"));
+    assert_eq!(job_list::printed(&list), format!("12 0 0 {kept}\n1 0 0 {kept}\n"));
 }
 
 #[test]

@@ -1,6 +1,7 @@
 pub mod Bridge
 pub mod Charges
 pub mod Extremes
+pub mod Hiding
 pub mod Judging
 pub mod Neutral
 pub mod Passes

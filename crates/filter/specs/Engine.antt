@@ -10,13 +10,15 @@ use lib.ListN.{length, getD}
 use Rattle.geometry.specs.Line.{period}
 use Rattle.geometry.specs.Drift.{falls, mirrored}
 use Rattle.geometry.specs.declared.Line.{Line}
-use Rattle.sweep.specs.Grid.{Page}
+use Rattle.sweep.specs.Grid.{Page, Tabled}
 use Rattle.sweep.specs.declared.Grid.{Grid}
+use Rattle.ticket.specs.Laws.{Allowed}
 use Rattle.ticket.specs.declared.HiddenBox.{HiddenBox}
 use Rattle.ticket.specs.declared.Ticket.{Ticket}
 use Rattle.tray.specs.Turned.{acrossOf, downOf, compactAt}
 use Rattle.filter.specs.Seen.{boxesOf, lineOf, runsSteep, hidden, turned}
 use Rattle.filter.specs.Filters.{View, dilationBack}
+use Rattle.filter.specs.Job.{boxAllowed}
 
 -- the value that no byte loses against
 unfoldable pub neutral : Bool → ℕ
@@ -80,3 +82,41 @@ pub record Held (t : Ticket) (width height : ℕ) (page : View) (scratch : List 
   pub one-there :
       (r : ℕ) → r < height → (c : ℕ) → c < width → hidden (boxesOf t) c r ≡ false
       → turned (steepOf t) page c r ≡ some (getD scratch (placeOf t width height c r) 0)
+
+-- ---- boxes painted over the page in the scratch
+
+-- every box of the ticket lies on the page
+pub record BoxesLie (t : Ticket) (width height : ℕ) : Type 0 where
+  pub count-most : t .count ≤ 64
+  pub places : length (t .boxes) ≡ 64
+  pub wide : 1 ≤ width
+  pub high : 1 ≤ height
+  pub width-most : width ≤ 8192
+  pub height-most : height ≤ 8192
+  pub each : (k : ℕ) (b : HiddenBox) → k < t .count → boxAllowed width height (getD (t .boxes) k b) ≡ true
+
+-- the pixels that one of the boxes hides hold the value, every other byte is as it was
+pub record Painted (boxes : List HiddenBox) (steep falls : Bool) (width height value : ℕ) (before after : List ℕ) : Type 0 where
+  pub same-length : length after ≡ length before
+  pub hides :
+      (r : ℕ) → r < height → (c : ℕ) → c < width → hidden boxes c r ≡ true → getD after (compactAt steep falls width height c r) 0 ≡ value
+  pub shows :
+      (r : ℕ) → r < height → (c : ℕ) → c < width → hidden boxes c r ≡ false
+      → getD after (compactAt steep falls width height c r) 0 ≡ getD before (compactAt steep falls width height c r) 0
+  pub rest : (i : ℕ) → width * height ≤ i → getD after i 0 ≡ getD before i 0
+
+-- ---- one pass
+
+-- what a pass asks: a ticket that was read, a page within its limits with its boxes, the line's tables, and room for two pages
+pub record Runs (t : Ticket) (width height : ℕ) (profile reaches : List ℕ) (room : ℕ) : Type 0 where
+  pub ticket : Allowed t
+  pub boxes : BoxesLie t width height
+  pub tables : (low : Bool) → Tabled (gridOf t width height low) profile reaches
+  pub two-pages : width * height + width * height ≤ room
+
+-- what it leaves: the page filtered, and nothing behind the two pages changed
+pub record PassDone (t : Ticket) (width height : ℕ) (filter : View → View) (work : ℕ) (before after : List ℕ) (count : ℕ) : Type 0 where
+  pub same-length : length after ≡ length before
+  pub rest : (i : ℕ) → width * height + width * height ≤ i → getD after i 0 ≡ getD before i 0
+  pub page : (page : View) → Held t width height page before → Held t width height (filter page) after
+  pub counted : count ≡ work

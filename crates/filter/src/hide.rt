@@ -1,0 +1,42 @@
+// Hidden pixels in the scratch: the boxes painted over the page in normal form.
+ghost use mathlib.Core.Path.{_≡_};
+ghost use mathlib.Core.Bool.{true};
+ghost use Prim.Native.Nat.{_*_, _≤_};
+ghost use lib.ListN.{length, take};
+ghost use Rattle.tray.specs.Turned.{boxed};
+ghost use Rattle.filter.specs.Job.{boxAllowed};
+ghost use Rattle.filter.specs.Seen.{boxesOf};
+ghost use Rattle.filter.specs.Engine.{BoxesLie, Painted};
+
+use ticket::HiddenBox;
+use ticket::Ticket;
+use tray::boxes::Rectangle;
+
+// A box as some rows and columns of the page.
+fn rectangle_of(b: HiddenBox, width: usize, height: usize) -> Rectangle
+    requires { ⌜ (boxAllowed width height b ≡ true) × (width ≤ 8192) × (height ≤ 8192) ⌝ }
+    ensures { λ r. ⌜ r ≡ boxed (b .left) (b .top) (b .width) (b .height) ⌝ }
+{
+    Rectangle {
+        top: b.top,
+        bottom: b.top + b.height,
+        left: b.left,
+        right: b.left + b.width,
+    }
+}
+
+// Every pixel that a box hides takes the value.
+pub fn hide(t: Ticket, steep: bool, falls: bool, width: usize, height: usize, page: &mut [u8], value: u8)
+    requires { ⌜ BoxesLie t width height × (width * height ≤ length (now page)) ⌝ }
+    ensures { λ _. ⌜ Painted (boxesOf t) steep falls width height value (now (page .entry)) (now (page .exit)) ⌝ }
+{
+    let boxes = t.boxes;
+    let count = t.count;
+    let mut k: usize = 0;
+    while k < count {
+        let b = boxes[k];
+        let x = rectangle_of(b, width, height);
+        tray::boxes::paint_box(page, steep, falls, width, height, x, value);
+        k += 1;
+    }
+}
