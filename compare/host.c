@@ -1,5 +1,5 @@
 // Calls the library for each job on standard input and prints one line a job: refusal, place and
-// work, the whole output tray and the whole scratch in hex, and last what was wrongly changed.
+// work, then what was wrongly changed, then the whole output tray and the whole scratch in hex.
 
 #include <inttypes.h>
 #include <stdio.h>
@@ -48,25 +48,22 @@ static struct lent lend(size_t length)
     return (struct lent){bytes + MARGIN, copy + MARGIN, length};
 }
 
-static void print_hex(const char *name, struct lent lent)
+static void print_wrong(int buffer, struct lent lent)
 {
-    printf(" %s ", name);
+    if (buffer < OUTPUT && memcmp(lent.bytes, lent.copy, lent.length) != 0)
+        printf(" %s changed", names[buffer]);
+    if (memcmp(lent.bytes - MARGIN, lent.copy - MARGIN, MARGIN) != 0 ||
+        memcmp(lent.bytes + lent.length, lent.copy + lent.length, MARGIN) != 0)
+        printf(" margin of %s changed", names[buffer]);
+}
+
+static void print_hex(int buffer, struct lent lent)
+{
+    printf(" %s ", names[buffer]);
     for (size_t at = 0; at < lent.length; at++) {
         putchar("0123456789abcdef"[lent.bytes[at] >> 4]);
         putchar("0123456789abcdef"[lent.bytes[at] & 15]);
     }
-}
-
-static void take_back(const char *name, struct lent lent, int may_change)
-{
-    uint8_t *bytes = lent.bytes - MARGIN, *copy = lent.copy - MARGIN;
-    if (!may_change && memcmp(lent.bytes, lent.copy, lent.length) != 0)
-        printf(" %s changed", name);
-    if (memcmp(bytes, copy, MARGIN) != 0 ||
-        memcmp(lent.bytes + lent.length, lent.copy + lent.length, MARGIN) != 0)
-        printf(" margin of %s changed", name);
-    free(bytes);
-    free(copy);
 }
 
 static void run(const struct job *job)
@@ -80,10 +77,14 @@ static void run(const struct job *job)
         lent[SOURCE].length, lent[OUTPUT].bytes, lent[OUTPUT].length, lent[SCRATCH].bytes,
         lent[SCRATCH].length);
     printf("%" PRIu64 " %" PRIu64 " %" PRIu64, answer.refusal, answer.place, answer.work);
-    print_hex("output", lent[OUTPUT]);
-    print_hex("scratch", lent[SCRATCH]);
     for (int i = 0; i < BUFFERS; i++)
-        take_back(names[i], lent[i], i == OUTPUT || i == SCRATCH);
+        print_wrong(i, lent[i]);
+    for (int i = OUTPUT; i < BUFFERS; i++)
+        print_hex(i, lent[i]);
+    for (int i = 0; i < BUFFERS; i++) {
+        free(lent[i].bytes - MARGIN);
+        free(lent[i].copy - MARGIN);
+    }
     // The line leaves at once, so that the lines before a crash are seen.
     printf("\n");
     fflush(stdout);

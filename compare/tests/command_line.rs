@@ -54,7 +54,8 @@ fn words_that_say_nothing() {
 fn driven(word: &str, count: u64, program: &[&str]) -> (String, u64) {
     let output = compare(&[&[word, "2", &count.to_string()], program].concat(), b"");
     let text = String::from_utf8_lossy(&output.stdout).to_string();
-    let number = |line: &str| line.strip_suffix(" differences")?.split(' ').last()?.parse().ok();
+    let number =
+        |line: &str| line.strip_suffix(" differences")?.split(' ').next_back()?.parse().ok();
     let differences = text.lines().find_map(number).expect("a summary");
     assert_eq!(output.status.code(), Some(i32::from(differences > 0)));
     (text, differences)

@@ -1,8 +1,10 @@
 pub mod Bridge
 pub mod Charges
 pub mod Extremes
+pub mod Grids
 pub mod Hiding
 pub mod Judging
 pub mod Neutral
 pub mod Passes
+pub mod Passing
 pub mod Steps

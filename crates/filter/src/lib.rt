@@ -2,8 +2,10 @@
 // The definitions stand in specs/: Seen (the page as the filter sees it), Filters (windows, erosion, dilation, opening, closing),
 // Work (comparisons), Answer (refusals, their numbers and places), Job (answer, output tray and scratch of a job).
 
+mod filters;
 mod hide;
 mod judge;
+
 
 // Where a page stands in its tray: the byte of its corner, and how far apart its rows start.
 pub struct Spot {

@@ -4,7 +4,7 @@
 use geometry::Line;
 
 mod pixel;
-mod rows;
+pub mod rows;
 mod step;
 
 // The page's sides, its line, and the window: how far it reaches back and on from a pixel, and its length, back + 1 + on.
