@@ -1,11 +1,13 @@
 -- One pass over the scratch filters the page that it holds. Assumes nothing.
 use mathlib.Core.Path.{_≡_, refl, sym, ap, ap₂, _∙_, subst, subst₃}
-use mathlib.Core.Bool.{Bool, true, false}
+use mathlib.Core.Bool.{Bool, true, false, not, cond}
 use mathlib.Core.Option.{Option, none, some}
 use mathlib.Core.List.{List}
 use Prim.Native.Nat.{ℕ, _+_, _*_, _≤_, _<_, zero-le}
-use native.Mathlib.Nat.{zero-add}
+use native.Mathlib.Nat.{zero-add, add-comm, mul-le-mul-left, mul-le-mul-right}
 use native.Mathlib.Omega.{arith}
+use lib.Dec.{eqb}
+use borrow.Author.Tests.{eq-eqb, ne-eqb}
 use lib.ListN.{length, getD}
 use Rattle.geometry.specs.Drift.{falls, mirrored}
 use Rattle.sweep.specs.Grid.{Page, Sized, Tabled, windowedAt}
@@ -16,8 +18,8 @@ use Rattle.ticket.specs.declared.Ticket.{Ticket}
 use Rattle.tray.specs.Turned.{acrossOf, downOf, compactColumn, compactAt}
 use Rattle.tray.specs.Laws.{down-in, across-in, compact-column-in, sides-product}
 use Rattle.filter.specs.Seen.{boxesOf, lineOf, hidden, turned}
-use Rattle.filter.specs.Filters.{View, pass}
-use Rattle.filter.specs.Work.{passWork}
+use Rattle.filter.specs.Filters.{View, pass, eroded, dilationBack, dilated, opened, closed, filtered}
+use Rattle.filter.specs.Work.{passWork, workOf}
 use Rattle.filter.specs.Engine.{neutral, orNeutral, Absent, Bytes, Shows, steepOf, fallsOf, backOf, gridOf, placeOf, Held, Painted, BoxesLie, Runs, PassDone}
 use Rattle.filter.proofs.Bridge.{bridge}
 use Rattle.filter.proofs.Charges.{work}
@@ -140,7 +142,7 @@ module _ (t : Ticket) (ok : Allowed t) (width height : ℕ) (lie : BoxesLie t wi
             one-there = one-after;
           }
 
-    pub pass-done : PassDone t width height (pass low (lineOf t) (backOf t low) (t .length)) (passWork (lineOf t) H W (t .length) (backOf t low)) old new count
+    pub pass-done : PassDone t width height (pass low (lineOf t) (backOf t low) (t .length)) (passWork (lineOf t) H W (t .length) (backOf t low)) 3 old new count
     unfolding gridOf
     pass-done =
         let product = sides-product (steepOf t) width height in
@@ -149,6 +151,7 @@ module _ (t : Ticket) (ok : Allowed t) (width height : ℕ) (lie : BoxesLie t wi
           rest = λ i h. passed .kept .above i (omega arith) ∙ painted .rest i (omega arith);
           page = held-after;
           counted = passed .counted ∙ sym (work g sized);
+          few = omega (arith, passed .most);
         }
 
 -- ---- what the code found, as the laws have it
@@ -174,5 +177,129 @@ pass-asks t width height profile reaches room runs low g is n same =
   where
     lie : BoxesLie t width height
     lie = runs .boxes
+
     two : size (gridOf t width height low) + size (gridOf t width height low) ≤ n
     two = two-pages t width height low n (omega (arith, runs .two-pages))
+
+-- ---- the operations, number by number
+
+filtered-erode : (t : Ticket) (page : View) → t .operation ≡ 1 → filtered t page ≡ eroded t page
+unfolding filtered
+filtered-erode t page e = rw (eq-eqb (t .operation) 1 e) refl
+
+filtered-dilate : (t : Ticket) (page : View) → t .operation ≡ 2 → filtered t page ≡ dilated t page
+unfolding filtered
+filtered-dilate t page e = rw (ne-eqb (t .operation) 1 (λ o. omega arith), eq-eqb (t .operation) 2 e) refl
+
+filtered-open : (t : Ticket) (page : View) → (t .operation ≡ 1 → ⊥) → (t .operation ≡ 2 → ⊥) → eqb (t .operation) 3 ≡ true → filtered t page ≡ dilated t (eroded t page)
+unfolding filtered opened
+filtered-open t page one two e = rw (ne-eqb (t .operation) 1 one, ne-eqb (t .operation) 2 two, e) refl
+
+filtered-close : (t : Ticket) (page : View) → (t .operation ≡ 1 → ⊥) → (t .operation ≡ 2 → ⊥) → eqb (t .operation) 3 ≡ false → filtered t page ≡ eroded t (dilated t page)
+unfolding filtered closed
+filtered-close t page one two e = rw (ne-eqb (t .operation) 1 one, ne-eqb (t .operation) 2 two, e) refl
+
+module _ (t : Ticket) (width height : ℕ) where
+  work-erode : t .operation ≡ 1 → workOf t width height ≡ passWork (lineOf t) (cond (steepOf t) height width) (cond (steepOf t) width height) (t .length) (t .origin)
+  unfolding workOf
+  work-erode e = rw (eq-eqb (t .operation) 1 e) refl
+
+  work-dilate : t .operation ≡ 2 → workOf t width height ≡ passWork (lineOf t) (cond (steepOf t) height width) (cond (steepOf t) width height) (t .length) (dilationBack t)
+  unfolding workOf
+  work-dilate e = rw (ne-eqb (t .operation) 1 (λ o. omega arith), eq-eqb (t .operation) 2 e) refl
+
+  work-both : (t .operation ≡ 1 → ⊥) → (t .operation ≡ 2 → ⊥)
+      → workOf t width height
+      ≡ passWork (lineOf t) (cond (steepOf t) height width) (cond (steepOf t) width height) (t .length) (t .origin)
+      + passWork (lineOf t) (cond (steepOf t) height width) (cond (steepOf t) width height) (t .length) (dilationBack t)
+  unfolding workOf
+  work-both one two = rw (ne-eqb (t .operation) 1 one, ne-eqb (t .operation) 2 two) refl
+
+-- ---- two passes
+
+module _ (t : Ticket) (width height : ℕ) where
+  pub passes-then : (F G : View → View) (a b : ℕ) (old mid new : List ℕ) (n m : ℕ) → PassDone t width height F a 3 old mid n → PassDone t width height G b 3 mid new m
+      → PassDone t width height (λ (page : View). G (F page)) (a + b) 6 old new (n + m)
+  passes-then F G a b old mid new n m first second =
+      record {
+        same-length = second .same-length ∙ first .same-length;
+        rest = λ i h. second .rest i h ∙ first .rest i h;
+        page = λ page held. second .page (F page) (first .page page held);
+        counted = omega (arith, first .counted, second .counted);
+        few = omega (arith, first .few, second .few);
+      }
+
+  -- the same filter and the same work under other names
+  pub passes-as : (F G : View → View) (a b k l : ℕ) (old new : List ℕ) (n : ℕ) → ((page : View) → F page ≡ G page) → a ≡ b → k ≤ l → k * (width * height) ≤ l * (width * height) → PassDone t width height F a k old new n
+      → PassDone t width height G b l old new n
+  passes-as F G a b k l old new n same work most grows done =
+      record {
+        same-length = done .same-length;
+        rest = done .rest;
+        page = λ page held. subst (λ (p : View). Held t width height p new) (same page) (done .page page held);
+        counted = done .counted ∙ work;
+        few = omega (arith, done .few);
+      }
+
+  -- ---- the four operations
+
+  abbrev way : Bool → View → View
+  way low page = pass low (lineOf t) (backOf t low) (t .length) page
+
+  abbrev cost : Bool → ℕ
+  cost low = passWork (lineOf t) (downOf (steepOf t) width height) (acrossOf (steepOf t) width height) (t .length) (backOf t low)
+
+  eroded-is : (page : View) → way true page ≡ eroded t page
+  unfolding eroded backOf
+  eroded-is page = refl
+
+  dilated-is : (page : View) → way false page ≡ dilated t page
+  unfolding dilated backOf
+  dilated-is page = refl
+
+  sides-as : (steep : Bool) → (cond steep height width ≡ downOf steep width height) × (cond steep width height ≡ acrossOf steep width height)
+  unfolding downOf acrossOf
+  sides-as true = (refl, refl)
+  sides-as false = (refl, refl)
+
+  eroding-is : cost true ≡ passWork (lineOf t) (cond (steepOf t) height width) (cond (steepOf t) width height) (t .length) (t .origin)
+  unfolding backOf
+  eroding-is = ap₂ (λ (h w : ℕ). passWork (lineOf t) h w (t .length) (t .origin)) (sym (sides-as (steepOf t) .0)) (sym (sides-as (steepOf t) .1))
+
+  dilating-is : cost false ≡ passWork (lineOf t) (cond (steepOf t) height width) (cond (steepOf t) width height) (t .length) (dilationBack t)
+  unfolding backOf
+  dilating-is = ap₂ (λ (h w : ℕ). passWork (lineOf t) h w (t .length) (dilationBack t)) (sym (sides-as (steepOf t) .0)) (sym (sides-as (steepOf t) .1))
+
+  module _ (old new : List ℕ) (n : ℕ) where
+    pub filter-erode : t .operation ≡ 1 → PassDone t width height (way true) (cost true) 3 old new n → PassDone t width height (filtered t) (workOf t width height) 6 old new n
+    filter-erode e done = passes-as (way true) (filtered t) (cost true) (workOf t width height) 3 6 old new n (λ page. eroded-is page ∙ sym (named page)) (eroding-is ∙ sym worked) (omega arith) (omega arith) done
+      where
+        named : (page : View) → filtered t page ≡ eroded t page
+        named page = filtered-erode t page e
+
+        worked : workOf t width height ≡ passWork (lineOf t) (cond (steepOf t) height width) (cond (steepOf t) width height) (t .length) (t .origin)
+        worked = work-erode t width height e
+
+    pub filter-dilate : t .operation ≡ 2 → PassDone t width height (way false) (cost false) 3 old new n → PassDone t width height (filtered t) (workOf t width height) 6 old new n
+    filter-dilate e done = passes-as (way false) (filtered t) (cost false) (workOf t width height) 3 6 old new n (λ page. dilated-is page ∙ sym (filtered-dilate t page e)) (dilating-is ∙ sym (work-dilate t width height e)) (omega arith) (omega arith) done
+
+    pub filter-both : (opens : Bool) → eqb (t .operation) 3 ≡ opens → (t .operation ≡ 1 → ⊥) → (t .operation ≡ 2 → ⊥)
+        → PassDone t width height (λ (page : View). way (not opens) (way opens page)) (cost opens + cost (not opens)) 6 old new n → PassDone t width height (filtered t) (workOf t width height) 6 old new n
+    filter-both true e one two done =
+        passes-as _ (filtered t) _ (workOf t width height) 6 6 old new n
+        (λ page. dilated-is (way true page) ∙ ap (dilated t) (eroded-is page) ∙ sym (filtered-open t page one two e))
+        (ap₂ _+_ eroding-is dilating-is ∙ sym (work-both t width height one two)) (omega arith) (omega arith) done
+    filter-both false e one two done =
+        passes-as _ (filtered t) _ (workOf t width height) 6 6 old new n
+        (λ page. eroded-is (way false page) ∙ ap (eroded t) (dilated-is page) ∙ sym (filtered-close t page one two e))
+        (ap₂ _+_ dilating-is eroding-is ∙ add-comm _ _ ∙ sym (work-both t width height one two)) (omega arith) (omega arith) done
+
+pub runs-as : (t : Ticket) (width height : ℕ) (profile reaches : List ℕ) (n m : ℕ) → n ≡ m → Runs t width height profile reaches m → Runs t width height profile reaches n
+runs-as t width height profile reaches n m e runs = subst (Runs t width height profile reaches) (sym e) runs
+
+-- how many pixels a page may have
+pub pixels-most : (t : Ticket) (width height : ℕ) → BoxesLie t width height → width * height ≤ 67108864
+pixels-most t width height lie =
+    let rows : width * height ≤ width * 8192 = mul-le-mul-left width (lie .height-most) in
+    let columns : width * 8192 ≤ 8192 * 8192 = mul-le-mul-right 8192 (lie .width-most) in
+    omega arith

@@ -5,20 +5,25 @@ use mathlib.Core.Path.{_≡_}
 use mathlib.Core.Bool.{Bool, true, false, cond}
 use mathlib.Core.Option.{Option, none, some}
 use mathlib.Core.List.{List}
-use Prim.Native.Nat.{ℕ, _+_, _-_, _*_, _≤_, _<_}
+use Prim.Native.Nat.{ℕ, _+_, _-_, _*_, _^_, _≤_, _<_}
 use lib.ListN.{length, getD}
 use Rattle.geometry.specs.Line.{period}
-use Rattle.geometry.specs.Drift.{falls, mirrored}
+use Rattle.geometry.specs.Drift.{falls, mirrored, drift, reach}
 use Rattle.geometry.specs.declared.Line.{Line}
 use Rattle.sweep.specs.Grid.{Page, Tabled}
 use Rattle.sweep.specs.declared.Grid.{Grid}
 use Rattle.ticket.specs.Laws.{Allowed}
 use Rattle.ticket.specs.declared.HiddenBox.{HiddenBox}
 use Rattle.ticket.specs.declared.Ticket.{Ticket}
+use Rattle.tray.specs.Placement.{scratchNeeded}
+use Rattle.tray.specs.Promises.{Placed}
+use Rattle.tray.specs.Written.{written, cleared}
 use Rattle.tray.specs.Turned.{acrossOf, downOf, compactAt}
 use Rattle.filter.specs.Seen.{boxesOf, lineOf, runsSteep, hidden, turned}
-use Rattle.filter.specs.Filters.{View, dilationBack}
-use Rattle.filter.specs.Job.{boxAllowed}
+use Rattle.filter.specs.Filters.{View, dilationBack, finished}
+use Rattle.filter.specs.Work.{workOf}
+use Rattle.filter.specs.declared.Placements.{Placements}
+use Rattle.filter.specs.Job.{boxAllowed, sourcePage, outputPage}
 
 -- the value that no byte loses against
 unfoldable pub neutral : Bool → ℕ
@@ -114,9 +119,34 @@ pub record Runs (t : Ticket) (width height : ℕ) (profile reaches : List ℕ) (
   pub tables : (low : Bool) → Tabled (gridOf t width height low) profile reaches
   pub two-pages : width * height + width * height ≤ room
 
--- what it leaves: the page filtered, and nothing behind the two pages changed
-pub record PassDone (t : Ticket) (width height : ℕ) (filter : View → View) (work : ℕ) (before after : List ℕ) (count : ℕ) : Type 0 where
+-- what it leaves: the page filtered, and nothing behind the two pages changed, with at most so many comparisons a pixel
+pub record PassDone (t : Ticket) (width height : ℕ) (filter : View → View) (work most : ℕ) (before after : List ℕ) (count : ℕ) : Type 0 where
   pub same-length : length after ≡ length before
   pub rest : (i : ℕ) → width * height + width * height ≤ i → getD after i 0 ≡ getD before i 0
   pub page : (page : View) → Held t width height page before → Held t width height (filter page) after
   pub counted : count ≡ work
+  pub few : count ≤ most * (width * height)
+
+-- ---- a job that nothing refuses
+
+-- the line's tables, n entries long
+pub record Tables (t : Ticket) (n : ℕ) (profile reaches : List ℕ) : Type 0 where
+  pub profile-size : length profile ≡ n
+  pub reaches-size : length reaches ≡ n
+  pub profile-is : (i : ℕ) → i < n → getD profile i 0 ≡ drift (lineOf t) i
+  pub reaches-is : (v : ℕ) → v < n → getD reaches v 0 ≡ reach (lineOf t) v n
+
+-- the ticket was read, both pages lie in their trays, the boxes lie on the page, and the scratch is long enough
+pub record Fits (t : Ticket) (p : Placements) (source output scratch : ℕ) : Type 0 where
+  pub ticket : Allowed t
+  pub boxes : BoxesLie t (p .width) (p .height)
+  pub from : Placed (sourcePage p) source
+  pub to : Placed (outputPage p) output
+  pub room : scratchNeeded (p .width) (p .height) ≤ scratch
+
+-- what it leaves
+pub record Finished (t : Ticket) (p : Placements) (source output scratch after used : List ℕ) (work : ℕ) : Type 0 where
+  pub written-is : after ≡ written (outputPage p) (finished t (sourcePage p) source) output
+  pub used-is : used ≡ cleared (scratchNeeded (p .width) (p .height)) scratch
+  pub work-is : work ≡ workOf t (p .width) (p .height)
+  pub work-small : work < 2 ^ 64

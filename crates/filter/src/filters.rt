@@ -8,7 +8,6 @@ ghost use Rattle.filter.specs.Seen.{lineOf};
 ghost use Rattle.filter.specs.Filters.{pass, filtered};
 ghost use Rattle.filter.specs.Work.{passWork, workOf};
 ghost use Rattle.filter.specs.Engine.{neutral, steepOf, fallsOf, backOf, gridOf, Runs, PassDone};
-
 use super::hide::hide;
 use geometry::Line;
 use sweep::Grid;
@@ -103,7 +102,7 @@ fn one_pass(
     scratch: &mut [u8],
 ) -> usize
     requires { ⌜ Runs t width height (now profile) (now reaches) (length (now scratch)) ⌝ }
-    ensures { λ r. ⌜ PassDone t width height (pass low (lineOf t) (backOf t low) (t .length)) (passWork (lineOf t) (downOf (steepOf t) width height) (acrossOf (steepOf t) width height) (t .length) (backOf t low)) (now (scratch .entry)) (now (scratch .exit)) r ⌝ }
+    ensures { λ r. ⌜ PassDone t width height (pass low (lineOf t) (backOf t low) (t .length)) (passWork (lineOf t) (downOf (steepOf t) width height) (acrossOf (steepOf t) width height) (t .length) (backOf t low)) 3 (now (scratch .entry)) (now (scratch .exit)) r ⌝ }
 {
     let steep = is_steep(t);
     let falls = does_fall(t);
@@ -123,7 +122,7 @@ pub fn filter_page(
     scratch: &mut [u8],
 ) -> usize
     requires { ⌜ Runs t width height (now profile) (now reaches) (length (now scratch)) ⌝ }
-    ensures { λ r. ⌜ PassDone t width height (filtered t) (workOf t width height) (now (scratch .entry)) (now (scratch .exit)) r ⌝ }
+    ensures { λ r. ⌜ PassDone t width height (filtered t) (workOf t width height) 6 (now (scratch .entry)) (now (scratch .exit)) r ⌝ }
 {
     let operation = t.operation;
     if operation == 1 {

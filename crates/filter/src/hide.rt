@@ -7,7 +7,6 @@ ghost use Rattle.tray.specs.Turned.{boxed};
 ghost use Rattle.filter.specs.Job.{boxAllowed};
 ghost use Rattle.filter.specs.Seen.{boxesOf};
 ghost use Rattle.filter.specs.Engine.{BoxesLie, Painted};
-
 use ticket::HiddenBox;
 use ticket::Ticket;
 use tray::boxes::Rectangle;
@@ -26,7 +25,15 @@ fn rectangle_of(b: HiddenBox, width: usize, height: usize) -> Rectangle
 }
 
 // Every pixel that a box hides takes the value.
-pub fn hide(t: Ticket, steep: bool, falls: bool, width: usize, height: usize, page: &mut [u8], value: u8)
+pub fn hide(
+    t: Ticket,
+    steep: bool,
+    falls: bool,
+    width: usize,
+    height: usize,
+    page: &mut [u8],
+    value: u8,
+)
     requires { ⌜ BoxesLie t width height × (width * height ≤ length (now page)) ⌝ }
     ensures { λ _. ⌜ Painted (boxesOf t) steep falls width height value (now (page .entry)) (now (page .exit)) ⌝ }
 {

@@ -6,7 +6,6 @@ mod filters;
 mod hide;
 mod judge;
 
-
 // Where a page stands in its tray: the byte of its corner, and how far apart its rows start.
 pub struct Spot {
     pub offset: usize,

@@ -190,3 +190,14 @@ count-small sweep g lo hi old new count wide high done =
     let all : total (rowCost sweep g) lo (hi - lo) ≤ (hi - lo) * g .width = total-bound (rowCost sweep g) (g .width) (row-cost-most sweep g) lo (hi - lo) in
     let rows : hi - lo ≤ 8192 = omega arith in
     omega (arith, product rows wide, done .counted)
+
+-- at most one comparison a pixel and sweep, three a pass
+sweep-most : (sweep : Sweep) (g : Grid) (old new : List ℕ) (count : ℕ) → Swept sweep g old new count → count ≤ size g
+sweep-most sweep g old new count done =
+    let all : total (rowCost sweep g) 0 (g .height - 0) ≤ (g .height - 0) * g .width = total-bound (rowCost sweep g) (g .width) (row-cost-most sweep g) 0 (g .height - 0) in
+    let same : (g .height - 0) * g .width ≡ g .height * g .width = ap (λ (h : ℕ). h * g .width) (omega arith) in
+    omega (arith, done .counted)
+
+pub pass-most : (g : Grid) (old one two three : List ℕ) (a b c : ℕ) → Swept Backward g old one a → Swept Forward g one two b → Swept Result g two three c → a + b + c ≤ 3 * size g
+pass-most g old one two three a b c first second third =
+    omega (arith, sweep-most Backward g old one a first, sweep-most Forward g one two b second, sweep-most Result g two three c third)

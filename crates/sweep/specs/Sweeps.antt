@@ -112,3 +112,5 @@ pub record Passed (g : Grid) (old new : List ℕ) (count : ℕ) : Type 0 where
   pub kept : Kept 0 (size g + size g) old new
   pub made : (f : Page) → RowsHold old 0 g f 0 (g .height) → RowsHold new 0 g (windowedAt g f) 0 (g .height)
   pub counted : count ≡ sweepCost Backward g + sweepCost Forward g + sweepCost Result g
+  -- "So the work is at most 3·w·h a pass."
+  pub most : count ≤ 3 * size g

@@ -1,66 +1,42 @@
+-- `filter::filters::filter_page` meets its contract, operation by operation. Assumes nothing.
+use native.Mathlib.Omega.{arith}
 use borrow.Author.Needs.{needs}
+use mathlib.Core.Path.{refl}
+use Rattle.filter.proofs.Passing.{passes-then, filter-erode, filter-dilate, filter-both, runs-as, pixels-most}
 use Rattle.filter.proofs.filters.filter_page.Statement.{statement}
 use Rattle.filter.proofs.filters.filter_page.Tie as tie
-use Rattle.filter.proofs.filters.filter_page.Reads as reads
-use Rattle.filter.proofs.filters.filter_page.Lts as lts
-use Rattle.filter.proofs.filters.one_pass.Reads as one-pass-reads
 
--- src/filters.rt:130:9
-one-pass-requires : tie.Need-one-pass-requires
-one-pass-requires c κs = search needs
-
--- src/filters.rt:130:9
-same-length : tie.Need-same-length
-same-length c = search needs
-
--- src/filters.rt:130:9
 returns : tie.Need-returns
-returns c = search needs
+returns c = filter-erode _ _ _ _ _ _ (c .before .before .before .before .if1 .taken) (c .before .before .one-pass .ensures)
 
--- src/filters.rt:133:9
-one-pass-requires-2 : tie.Need-one-pass-requires-2
-one-pass-requires-2 c κs = search needs
-
--- src/filters.rt:133:9
-same-length-2 : tie.Need-same-length-2
-same-length-2 c = search needs
-
--- src/filters.rt:133:9
 returns-2 : tie.Need-returns-2
-returns-2 c = search needs
+returns-2 c = filter-dilate _ _ _ _ _ _ (c .before .before .before .before .if2 .taken) (c .before .before .one-pass2 .ensures)
 
--- src/filters.rt:136:9
-one-pass-requires-3 : tie.Need-one-pass-requires-3
-one-pass-requires-3 c κs = search needs
-
--- src/filters.rt:137:9
 one-pass-requires-4 : tie.Need-one-pass-requires-4
-one-pass-requires-4 c κs = search needs
+one-pass-requires-4 c κs = runs-as _ _ _ _ _ _ _ (c .before .before .before .one-pass3 .ensures .same-length) (c .before .before .before .before .before .before .before .before .before .before .pre)
 
--- src/filters.rt:138:5
 add-result : tie.Need-add-result
-add-result c = search needs
+add-result c =
+    let lie = c .before .before .before .before .before .before .before .before .before .before .before .before .before .pre .boxes in
+    record { fits = omega (arith, c .before .before .before .before .before .before .one-pass3 .ensures .few, c .before .before .one-pass4 .ensures .few, pixels-most _ _ _ lie) }
 
--- src/filters.rt:117:1
-same-length-3 : tie.Need-same-length-3
-same-length-3 c = search needs
-
--- src/filters.rt:117:1
 returns-3 : tie.Need-returns-3
-returns-3 c = search needs
+returns-3 c =
+    filter-both _ _ _ _ _ _ _ refl (c .before .before .before .before .before .before .before .before .before .if1 .left) (c .before .before .before .before .before .before .before .before .if2 .left)
+    (passes-then _ _ _ _ _ _ _ _ _ _ _ _ (c .before .before .before .before .before .before .one-pass3 .ensures) (c .before .before .one-pass4 .ensures))
 
 pub filter-page-spec : {M : Type 1} → statement M
 filter-page-spec =
     tie.close
     (tie.spec
-    one-pass-requires
-    same-length
+    (λ c κs. search needs)
+    (λ c. c .before .before .one-pass .ensures .same-length)
     returns
-    one-pass-requires-2
-    same-length-2
+    (λ c κs. search needs)
+    (λ c. c .before .before .one-pass2 .ensures .same-length)
     returns-2
-    one-pass-requires-3
+    (λ c κs. search needs)
     one-pass-requires-4
     add-result
-    same-length-3
+    (λ c. search needs)
     returns-3)

@@ -39,9 +39,10 @@ paint-box-requires : tie.Need-paint-box-requires Inv-loop μ-loop
 paint-box-requires c κs =
     let start = c .before .before .before .before .before .before .before in
     let lie = start .pre .0 in
-    let l = c .before .before .before .before .loop in
-    (subst (λ (x : Rectangle). OnPage x (start .args .width) (start .args .height)) (sym (c .before .rectangle-of .ensures)) (on-page _ _ _ (lie .each (l .k) noBox (omega arith)) (lie .wide) (lie .high))
-    , omega (arith, start .pre .1, l .inv .1 .same-length))
+    let l = c .before .before .before .before .loop in (
+      subst (λ (x : Rectangle). OnPage x (start .args .width) (start .args .height)) (sym (c .before .rectangle-of .ensures)) (on-page _ _ _ (lie .each (l .k) noBox (omega arith)) (lie .wide) (lie .high)),
+      omega (arith, start .pre .1, l .inv .1 .same-length),
+    )
 
 add-k : tie.Need-add-k Inv-loop μ-loop
 add-k c = record { fits = omega (arith, c .before .before .before .before .before .before .before .before .before .before .pre .0 .count-most) }
@@ -51,9 +52,10 @@ loop-again c =
     let start = c .before .before .before .before .before .before .before .before .before .before in
     let a = start .args in
     let lie = start .pre .0 in
-    let l = c .before .before .before .before .before .before .before .loop in
-    (omega arith
-    , painted-more (a .t .boxes) (l .k) _ (omega (arith, lie .places, lie .count-most)) (own-default (a .t .boxes) (l .k) noBox) _ _ _ _ _ _ _ _ _ (c .before .before .before .before .rectangle-of .ensures) (l .inv .1) (c .before .before .paint-box .ensures))
+    let l = c .before .before .before .before .before .before .before .loop in (
+      omega arith,
+      painted-more (a .t .boxes) (l .k) _ (omega (arith, lie .places, lie .count-most)) (own-default (a .t .boxes) (l .k) noBox) _ _ _ _ _ _ _ _ _ (c .before .before .before .before .rectangle-of .ensures) (l .inv .1) (c .before .before .paint-box .ensures),
+    )
 
 same-length : tie.Need-same-length Inv-loop μ-loop
 same-length c = c .before .loop .inv .1 .same-length

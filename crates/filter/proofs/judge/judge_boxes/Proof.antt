@@ -36,11 +36,12 @@ returns c =
 loop-again : tie.Need-loop-again Inv-loop μ-loop
 loop-again c =
     let start = c .before .before .before .before .before in
-    let l = c .before .before .before .before .loop in
-    (omega arith
-    , sym (unless-left _ (BadBox (l .k)) _ (sym (c .before .box-allowed .ensures) ∙ not-false _ (c .if1 .left)))
-    ∙ sym (box-judged (start .args .width) (start .args .height) (start .args .count) (l .k) (start .args .t1) _ (Done 0) (omega (arith, start .pre .0, start .pre .1)) (omega arith) (own-default (start .args .t1) (l .k) _))
-    ∙ l .inv .1)
+    let l = c .before .before .before .before .loop in (
+      omega arith,
+      sym (unless-left _ (BadBox (l .k)) _ (sym (c .before .box-allowed .ensures) ∙ not-false _ (c .if1 .left)))
+          ∙ sym (box-judged (start .args .width) (start .args .height) (start .args .count) (l .k) (start .args .t1) _ (Done 0) (omega (arith, start .pre .0, start .pre .1)) (omega arith) (own-default (start .args .t1) (l .k) _))
+          ∙ l .inv .1,
+    )
 
 returns-2 : tie.Need-returns-2 Inv-loop μ-loop
 returns-2 c =

@@ -1,7 +1,7 @@
 -- `sweep::rows::pass` meets its contract: backward, forward, result. Assumes nothing.
 use native.Mathlib.Omega.{arith}
 use borrow.Author.Needs.{needs}
-use Rattle.sweep.proofs.Paging.{count-small, pass-kept, pass-made, pass-counted}
+use Rattle.sweep.proofs.Paging.{count-small, pass-kept, pass-made, pass-counted, pass-most}
 use Rattle.sweep.proofs.rows.pass.Statement.{statement}
 use Rattle.sweep.proofs.rows.pass.Tie as tie
 
@@ -24,6 +24,7 @@ returns c =
       kept = pass-kept _ _ _ _ _ _ _ _ first second third;
       made = pass-made _ _ _ _ _ _ _ _ first second third;
       counted = pass-counted _ _ _ _ _ _ _ _ first second third;
+      most = pass-most _ _ _ _ _ _ _ _ first second third;
     }
 
 pub pass-spec : {M : Type 1} → statement M
