@@ -1,6 +1,7 @@
 pub mod Bridge
 pub mod Charges
 pub mod Extremes
+pub mod Finishing
 pub mod Grids
 pub mod Hiding
 pub mod Judging

@@ -5,7 +5,7 @@ use mathlib.Core.Path.{_≡_}
 use mathlib.Core.Bool.{Bool, true, false, cond}
 use mathlib.Core.Option.{Option, none, some}
 use mathlib.Core.List.{List}
-use Prim.Native.Nat.{ℕ, _+_, _-_, _*_, _^_, _≤_, _<_}
+use Prim.Native.Nat.{ℕ, _+_, _-_, _*_, _≤_, _<_}
 use lib.ListN.{length, getD}
 use Rattle.geometry.specs.Line.{period}
 use Rattle.geometry.specs.Drift.{falls, mirrored, drift, reach}
@@ -16,7 +16,7 @@ use Rattle.ticket.specs.Laws.{Allowed}
 use Rattle.ticket.specs.declared.HiddenBox.{HiddenBox}
 use Rattle.ticket.specs.declared.Ticket.{Ticket}
 use Rattle.tray.specs.Placement.{scratchNeeded}
-use Rattle.tray.specs.Promises.{Placed}
+use Rattle.tray.specs.Promises.{Placed, compactPixel}
 use Rattle.tray.specs.Written.{written, cleared}
 use Rattle.tray.specs.Turned.{acrossOf, downOf, compactAt}
 use Rattle.filter.specs.Seen.{boxesOf, lineOf, runsSteep, hidden, turned}
@@ -136,17 +136,33 @@ pub record Tables (t : Ticket) (n : ℕ) (profile reaches : List ℕ) : Type 0 w
   pub profile-is : (i : ℕ) → i < n → getD profile i 0 ≡ drift (lineOf t) i
   pub reaches-is : (v : ℕ) → v < n → getD reaches v 0 ≡ reach (lineOf t) v n
 
--- the ticket was read, both pages lie in their trays, the boxes lie on the page, and the scratch is long enough
-pub record Fits (t : Ticket) (p : Placements) (source output scratch : ℕ) : Type 0 where
+-- the ticket was read, its page lies in the source tray, the boxes lie on the page, and the scratch is long enough
+pub record Enters (t : Ticket) (p : Placements) (source scratch : ℕ) : Type 0 where
   pub ticket : Allowed t
   pub boxes : BoxesLie t (p .width) (p .height)
   pub from : Placed (sourcePage p) source
-  pub to : Placed (outputPage p) output
   pub room : scratchNeeded (p .width) (p .height) ≤ scratch
 
--- what it leaves
+-- and the page lies in the output tray
+pub record Fits (t : Ticket) (p : Placements) (source output scratch : ℕ) : Type 0 where
+  pub enters : Enters t p source scratch
+  pub to : Placed (outputPage p) output
+
+-- the finished page stands in the scratch
+pub record Ready (t : Ticket) (p : Placements) (source before after : List ℕ) (work : ℕ) : Type 0 where
+  pub same-length : length after ≡ length before
+  pub rest : (i : ℕ) → p .width * p .height + p .width * p .height ≤ i → getD after i 0 ≡ getD before i 0
+  pub pixel : (r : ℕ) → r < p .height → (c : ℕ) → c < p .width → getD after (placeOf t (p .width) (p .height) c r) 0 ≡ finished t (sourcePage p) source c r
+  pub work-is : work ≡ workOf t (p .width) (p .height)
+  pub work-few : work ≤ 6 * (p .width * p .height)
+
+-- what a finished job leaves
 pub record Finished (t : Ticket) (p : Placements) (source output scratch after used : List ℕ) (work : ℕ) : Type 0 where
   pub written-is : after ≡ written (outputPage p) (finished t (sourcePage p) source) output
   pub used-is : used ≡ cleared (scratchNeeded (p .width) (p .height)) scratch
   pub work-is : work ≡ workOf t (p .width) (p .height)
-  pub work-small : work < 2 ^ 64
+
+-- the page in the scratch given out
+pub record GivenOut (t : Ticket) (p : Placements) (scratch output used after : List ℕ) : Type 0 where
+  pub written-is : after ≡ written (outputPage p) (compactPixel scratch (steepOf t) (fallsOf t) (outputPage p)) output
+  pub used-is : used ≡ cleared (scratchNeeded (p .width) (p .height)) scratch

@@ -4,6 +4,7 @@
 
 mod filters;
 mod hide;
+mod job;
 mod judge;
 
 // Where a page stands in its tray: the byte of its corner, and how far apart its rows start.
