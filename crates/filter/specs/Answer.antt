@@ -1,6 +1,7 @@
 -- Document 01, 'Refusals and what they return': the number, the place and the work of each answer.
 -- Assumes nothing.
 use Prim.Native.Nat.{ℕ}
+use mathlib.Core.Bool.{Bool, true, false}
 use Rattle.ticket.specs.Judging as Judging
 use Rattle.filter.specs.declared.Answer.{Answer}
 use Rattle.filter.specs.declared.Answer.the-variants.{Done, BadTicket, BadSides, SourceTooShort, OutputTooShort, ScratchTooShort, BadBox}
@@ -34,3 +35,13 @@ workIn SourceTooShort = 0
 workIn OutputTooShort = 0
 workIn ScratchTooShort = 0
 workIn (BadBox k) = 0
+
+-- whether the page is finished
+unfoldable pub isDone : Answer → Bool
+isDone (Done work) = true
+isDone (BadTicket fault at) = false
+isDone BadSides = false
+isDone SourceTooShort = false
+isDone OutputTooShort = false
+isDone ScratchTooShort = false
+isDone (BadBox k) = false

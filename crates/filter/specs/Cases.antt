@@ -25,7 +25,7 @@ use Rattle.filter.specs.Seen.{covers, hidden, boxesOf, lineOf, seen, tur
 use Rattle.filter.specs.Filters.{joined, extreme, valueAt, onLine, inWindow, passAt, pass, eroded, dilationBack, dilated, opened, closed, filtered, orWhite, finished}
 use Rattle.filter.specs.Work.{charged, chargedAt, passWork, workOf}
 use Rattle.filter.specs.Answer.{numberOf, placeOf, workIn}
-use Rattle.filter.specs.Job.{sourcePage, outputPage, boxAllowed, unless, judgeBoxes, placed, answerUnder, answer, whenDone, lengths, output, scratchAfter}
+use Rattle.filter.specs.Job.{sourcePage, outputPage, boxAllowed, unless, judgeBoxes, placed, answerUnder, answer, whenDone, lengths, outputAfter, scratchAfter}
 use Rattle.filter.specs.declared.Answer.{Answer}
 use Rattle.filter.specs.declared.Placements.{Placements}
 
@@ -222,7 +222,7 @@ outcome c s =
       number = numberOf given;
       at = placeOf given;
       work = workIn given;
-      output = output (c .bytes) (placements c s) source old dirty;
+      output = outputAfter (c .bytes) (placements c s) source old dirty;
       scratch = scratchAfter (c .bytes) (placements c s) source old dirty;
     }
 
@@ -241,5 +241,5 @@ abbrev everywhere : (Case → Setting → Outcome) → List (List Outcome)
 everywhere f = map (λ (c : Case). map (λ (s : Setting). f c s) (c .settings)) table
 
 worked-cases : everywhere outcome ≡ everywhere said
-unfolding shallow steep majorOf minorOf floorDiv D shift period profile place landing stepOf majorAt within inPage count behind ahead byteAt numberAt signed16 signedAt operationIn lineIn dxIn dyIn lengthIn originIn phaseIn boxHead boxIn boxesIn _then_ judgeHead judgeSize judgeField operationKnown lineKnown isPeriodic divided coprime vectorAllowed lengthAllowed originAllowed phaseAllowed judgeOperation judgeLine judgeVector judgeLength judgeOrigin judgePhase judgeBox judged Judging.unless Judging.judgeBoxes boxPlace boxPlaces shown byteOf pixelIn sideAllowed allowed fits scratchNeeded columnOf rowOf inside writtenFrom written cleared covers hidden boxesOf lineOf seen turned runsSteep chosen joined extreme valueAt onLine inWindow passAt pass eroded dilationBack dilated opened closed filtered orWhite finished rightward leftward resulting charged chargedAt total passWork workOf numberOf placeOf workIn sourcePage outputPage boxAllowed unless judgeBoxes placed answerUnder answer whenDone output scratchAfter
+unfolding shallow steep majorOf minorOf floorDiv D shift period profile place landing stepOf majorAt within inPage count behind ahead byteAt numberAt signed16 signedAt operationIn lineIn dxIn dyIn lengthIn originIn phaseIn boxHead boxIn boxesIn _then_ judgeHead judgeSize judgeField operationKnown lineKnown isPeriodic divided coprime vectorAllowed lengthAllowed originAllowed phaseAllowed judgeOperation judgeLine judgeVector judgeLength judgeOrigin judgePhase judgeBox judged Judging.unless Judging.judgeBoxes boxPlace boxPlaces shown byteOf pixelIn sideAllowed allowed fits scratchNeeded columnOf rowOf inside writtenFrom written cleared covers hidden boxesOf lineOf seen turned runsSteep chosen joined extreme valueAt onLine inWindow passAt pass eroded dilationBack dilated opened closed filtered orWhite finished rightward leftward resulting charged chargedAt total passWork workOf numberOf placeOf workIn sourcePage outputPage boxAllowed unless judgeBoxes placed answerUnder answer whenDone outputAfter scratchAfter
 worked-cases = refl

@@ -22,8 +22,10 @@ use Rattle.tray.specs.Turned.{acrossOf, downOf, compactAt}
 use Rattle.filter.specs.Seen.{boxesOf, lineOf, runsSteep, hidden, turned}
 use Rattle.filter.specs.Filters.{View, dilationBack, finished}
 use Rattle.filter.specs.Work.{workOf}
+use Rattle.filter.specs.declared.Answer.{Answer}
+use Rattle.filter.specs.declared.Answer.the-variants.{Done}
 use Rattle.filter.specs.declared.Placements.{Placements}
-use Rattle.filter.specs.Job.{boxAllowed, sourcePage, outputPage}
+use Rattle.filter.specs.Job.{boxAllowed, sourcePage, outputPage, lengths, placed, whenDone}
 
 -- the value that no byte loses against
 unfoldable pub neutral : Bool → ℕ
@@ -166,3 +168,9 @@ pub record Finished (t : Ticket) (p : Placements) (source output scratch after u
 pub record GivenOut (t : Ticket) (p : Placements) (scratch output used after : List ℕ) : Type 0 where
   pub written-is : after ≡ written (outputPage p) (compactPixel scratch (steepOf t) (fallsOf t) (outputPage p)) output
   pub used-is : used ≡ cleared (scratchNeeded (p .width) (p .height)) scratch
+
+-- what the job of a ticket that was read does
+pub record RanRead (t : Ticket) (p : Placements) (source output scratch after used : List ℕ) (given : Answer) : Type 0 where
+  pub answered : given ≡ placed t p (lengths source output scratch) (Done (workOf t (p .width) (p .height)))
+  pub written-is : after ≡ whenDone given (written (outputPage p) (finished t (sourcePage p) source) output) output
+  pub used-is : used ≡ whenDone given (cleared (scratchNeeded (p .width) (p .height)) scratch) scratch

@@ -81,8 +81,8 @@ abbrev pub lengths : List ℕ → List ℕ → List ℕ → Lengths
 lengths source output scratch = record { source = length source; output = length output; scratch = length scratch }
 
 -- the output tray: "A refused job writes nothing. A finished one writes only its page"
-unfoldable pub output : List ℕ → Placements → List ℕ → List ℕ → List ℕ → List ℕ
-output ticket p source out scratch =
+unfoldable pub outputAfter : List ℕ → Placements → List ℕ → List ℕ → List ℕ → List ℕ
+outputAfter ticket p source out scratch =
     whenDone (answer ticket p (lengths source out scratch)) (written (outputPage p) (finished (shown ticket) (sourcePage p) source) out) out
 
 -- the scratch: "they hold zero at the end of a finished job. Later scratch bytes keep their values."

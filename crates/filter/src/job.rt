@@ -6,15 +6,17 @@ ghost use Rattle.ticket.specs.Laws.{Allowed};
 ghost use Rattle.tray.specs.Turned.{downOf};
 ghost use Rattle.tray.specs.Placement.{scratchNeeded};
 ghost use Rattle.tray.specs.Promises.{Placed};
-ghost use Rattle.filter.specs.Job.{outputPage};
-ghost use Rattle.filter.specs.Engine.{steepOf, Tables, Enters, Fits, Ready, GivenOut, Finished};
-
+ghost use Rattle.filter.specs.Job.{outputPage, lengths, answer, outputAfter, scratchAfter};
+ghost use Rattle.filter.specs.Answer.{isDone};
+ghost use Rattle.filter.specs.Engine.{steepOf, Tables, Enters, Fits, Ready, GivenOut, Finished, RanRead};
+use super::Answer;
 use super::Placements;
 use super::filters;
 use super::hide::hide;
 use super::judge;
 use geometry::Line;
 use ticket::Ticket;
+use ticket::Verdict;
 
 // "A hidden pixel comes out as 255 in every finished page."
 const WHITE: u8 = 255;
@@ -97,5 +99,68 @@ fn finish(t: Ticket, p: Placements, source: &[u8], output: &mut [u8], scratch: &
     let mut profile = no_entries();
     let mut reaches = no_entries();
     let rows = filters::down(filters::is_steep(t), p.width, p.height);
-    finish_with(t, p, source, output, scratch, &mut profile[..rows], &mut reaches[..rows])
+    finish_with(
+        t,
+        p,
+        source,
+        output,
+        scratch,
+        &mut profile[..rows],
+        &mut reaches[..rows],
+    )
+}
+
+// Whether an answer is a finished page.
+pub fn is_done(a: Answer) -> bool
+    ensures { λ r. ⌜ r ≡ isDone a ⌝ }
+{
+    match a {
+        Answer::Done(_) => true,
+        Answer::BadTicket(_, _) => false,
+        Answer::BadSides => false,
+        Answer::SourceTooShort => false,
+        Answer::OutputTooShort => false,
+        Answer::ScratchTooShort => false,
+        Answer::BadBox(_) => false,
+    }
+}
+
+// The job of a ticket that was read.
+fn run_read(
+    t: Ticket,
+    p: Placements,
+    source: &[u8],
+    output: &mut [u8],
+    scratch: &mut [u8],
+) -> Answer
+    requires { ⌜ Allowed t ⌝ }
+    ensures { λ r. ⌜ RanRead t p (now (source .entry)) (now (output .entry)) (now (scratch .entry)) (now (output .exit)) (now (scratch .exit)) r ⌝ }
+{
+    let judged = judge::judge(t, p, source.len(), output.len(), scratch.len());
+    if !is_done(judged) {
+        return judged;
+    }
+    let work = finish(t, p, source, output, scratch);
+    Answer::Done(work as u64)
+}
+
+// The job. Every ticket, placement and buffer length gets an answer: a finished page and its comparisons, or the first of the
+// fourteen refusals. A refused job writes nothing. A finished one writes only its page, and leaves the scratch it used at zero.
+pub fn run(
+    ticket: &[u8],
+    p: Placements,
+    source: &[u8],
+    output: &mut [u8],
+    scratch: &mut [u8],
+) -> Answer
+    ensures answered { λ r. ⌜ r ≡ answer (now (ticket .entry)) p (lengths (now (source .entry)) (now (output .entry)) (now (scratch .entry))) ⌝ }
+    ensures written { λ _. ⌜ now (output .exit) ≡ outputAfter (now (ticket .entry)) p (now (source .entry)) (now (output .entry)) (now (scratch .entry)) ⌝ }
+    ensures cleared { λ _. ⌜ now (scratch .exit) ≡ scratchAfter (now (ticket .entry)) p (now (source .entry)) (now (output .entry)) (now (scratch .entry)) ⌝ }
+{
+    let reading = ticket::read(ticket);
+    let verdict = reading.verdict;
+    if let Verdict::Refused(fault, at) = verdict {
+        return Answer::BadTicket(fault, at);
+    }
+    run_read(reading.ticket, p, source, output, scratch)
 }

@@ -35,9 +35,10 @@ finish-with-requires c κs =
     let a = start .args in
     let most = rows-most (c .before .before .before .before .before .is-steep .result) _ _ _ (start .pre .enters .boxes) in
     let one = length-take-le (c .before .before .before .before .down .result) (c .before .before .before .before .before .before .before .no-entries .result) (omega (arith, c .before .before .before .before .down .ensures, most, c .before .before .before .before .before .before .before .no-entries .ensures)) in
-    let two = length-take-le (c .before .before .before .before .down .result) (c .before .before .before .before .before .before .no-entries2 .result) (omega (arith, c .before .before .before .before .down .ensures, most, c .before .before .before .before .before .before .no-entries2 .ensures)) in
-    (start .pre
-    , (one ∙ c .before .before .before .before .down .ensures ∙ ap (λ (s : Bool). downOf s (a .p .width) (a .p .height)) (c .before .before .before .before .before .is-steep .ensures), two ∙ sym one))
+    let two = length-take-le (c .before .before .before .before .down .result) (c .before .before .before .before .before .before .no-entries2 .result) (omega (arith, c .before .before .before .before .down .ensures, most, c .before .before .before .before .before .before .no-entries2 .ensures)) in (
+      start .pre,
+      (one ∙ c .before .before .before .before .down .ensures ∙ ap (λ (s : Bool). downOf s (a .p .width) (a .p .height)) (c .before .before .before .before .before .is-steep .ensures), two ∙ sym one),
+    )
 
 returns : tie.Need-returns
 returns c = c .before .before .before .before .before .before .finish-with .ensures
