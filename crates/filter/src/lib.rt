@@ -1,11 +1,17 @@
 // The job: a page of one tray filtered along lines into another.
 // The definitions stand in specs/: Seen (the page as the filter sees it), Filters (windows, erosion, dilation, opening, closing),
-// Work (comparisons), Answer (refusals, their numbers and places), Job (answer, output tray and scratch of a job).
-
+// Work (comparisons), Answer (refusals, their numbers and places), Job (answer, output tray and scratch of a job), Cases (the worked cases).
+//
+//     job      the job, with no condition on its callers: run
+//     report   an answer as three numbers
+//     judge    refusals 10 to 14
+//     filters  the four filters, of one pass or two, over the page in the scratch
+//     hide     boxes painted over the page in the scratch
 mod filters;
 mod hide;
-mod job;
+pub mod job;
 mod judge;
+pub mod report;
 
 // Where a page stands in its tray: the byte of its corner, and how far apart its rows start.
 pub struct Spot {
