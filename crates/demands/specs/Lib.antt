@@ -1,0 +1,14 @@
+pub mod Same
+pub mod Untouched
+pub mod Near
+pub mod Reach
+pub mod NearLaws
+pub mod ReachProof
+pub mod Finishing
+pub mod Exact
+pub mod ExactNumbers
+pub mod ExactLines
+pub mod ExactTrays
+pub mod ExactProof
+pub mod ExactJob
+pub mod ExactWorked

@@ -1,0 +1,21 @@
+-- The numbers that the exported functions take and give, as the job's definitions have them.
+-- Assumes nothing.
+use Prim.Native.Nat.{ℕ}
+use Rattle.filter.specs.Answer.{numberOf, placeOf, workIn}
+use Rattle.filter.specs.declared.Answer.{Answer}
+use Rattle.filter.specs.declared.Placements.{Placements}
+use Rattle.sotrugla.specs.declared.Outcome.{Outcome}
+
+-- width, height, source offset and stride, output offset and stride
+abbrev pub placementsOf : ℕ → ℕ → ℕ → ℕ → ℕ → ℕ → Placements
+placementsOf width height from apart to between =
+    record {
+      width = width;
+      height = height;
+      source = record { offset = from; stride = apart };
+      output = record { offset = to; stride = between };
+    }
+
+-- the refusal's number, 0 for a finished page; its place; the work
+abbrev pub outcomeOf : Answer → Outcome
+outcomeOf a = record { refusal = numberOf a; place = placeOf a; work = workIn a }
