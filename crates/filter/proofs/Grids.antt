@@ -26,10 +26,7 @@ use Rattle.tray.specs.Turned.{acrossOf, downOf}
 use Rattle.filter.specs.Seen.{lineOf, runsSteep}
 use Rattle.filter.specs.Filters.{dilationBack}
 use Rattle.filter.specs.Engine.{steepOf, fallsOf, backOf, gridOf}
-
-and-true : (a b : Bool) → a && b ≡ true → (a ≡ true) × (b ≡ true)
-and-true true b e = (refl, e)
-and-true false b e = absurd (true≢false (sym e))
+use Rattle.filter.proofs.Both.{and-true}
 
 -- ---- a component as the code passes it on
 

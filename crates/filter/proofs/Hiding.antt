@@ -16,12 +16,9 @@ use Rattle.tray.specs.declared.boxes.Rectangle.{Rectangle}
 use Rattle.filter.specs.Seen.{covers, hidden}
 use Rattle.filter.specs.Job.{boxAllowed}
 use Rattle.filter.specs.Engine.{Painted}
+use Rattle.filter.proofs.Both.{and-true}
 
 -- ---- a box as a rectangle
-
-and-true : (a b : Bool) → a && b ≡ true → (a ≡ true) × (b ≡ true)
-and-true true b e = (refl, e)
-and-true false b e = absurd (true≢false (sym e))
 
 abbrev rectangle : HiddenBox → Rectangle
 rectangle b = boxed (b .left) (b .top) (b .width) (b .height)

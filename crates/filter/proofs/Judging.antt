@@ -31,6 +31,7 @@ use Rattle.filter.specs.Engine.{BoxesLie, Fits, Finished, RanRead}
 use Rattle.filter.specs.declared.Answer.{Answer}
 use Rattle.filter.specs.declared.Answer.the-variants.{Done, BadTicket, BadSides, SourceTooShort, OutputTooShort, ScratchTooShort, BadBox}
 use Rattle.filter.specs.declared.Placements.{Placements}
+use Rattle.filter.proofs.Both.{and-true}
 
 -- the box at k, then those after it
 head-judged : (w h k : ℕ) (b : HiddenBox) (boxes : List HiddenBox) (next : Answer) → judgeBoxes w h (b ∷ boxes) k next ≡ unless (boxAllowed w h b) (BadBox k) (judgeBoxes w h boxes (suc k) next)
@@ -97,17 +98,13 @@ module _ (t : Ticket) (p : Placements) (n : Lengths) (next : Answer) where
         refused-boxes e = rw (sides, source, output, e) refl
 
 -- pages that are not refused lie in their trays
-both-true : (a b : Bool) → a && b ≡ true → (a ≡ true) × (b ≡ true)
-both-true true b e = (refl, e)
-both-true false b e = absurd (true≢false (sym e))
-
 pub source-placed : (p : Placements) (n : ℕ) → allowed (sourcePage p) && allowed (outputPage p) ≡ true → fits (sourcePage p) n ≡ true → Placed (record { offset = p .source .offset; width = p .width; height = p .height; stride = p .source .stride }) n
 unfolding sourcePage
-source-placed p n sides fit = Laws.placed (sourcePage p) n (both-true _ _ sides .0) fit
+source-placed p n sides fit = Laws.placed (sourcePage p) n (and-true _ _ sides .0) fit
 
 pub output-placed : (p : Placements) (n : ℕ) → allowed (sourcePage p) && allowed (outputPage p) ≡ true → fits (outputPage p) n ≡ true → Placed (record { offset = p .output .offset; width = p .width; height = p .height; stride = p .output .stride }) n
 unfolding outputPage
-output-placed p n sides fit = Laws.placed (outputPage p) n (both-true (allowed (sourcePage p)) _ sides .1) fit
+output-placed p n sides fit = Laws.placed (outputPage p) n (and-true (allowed (sourcePage p)) _ sides .1) fit
 
 -- ---- a judgement that refuses is the same whatever comes next; one that does not gives what comes next
 

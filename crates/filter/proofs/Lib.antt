@@ -1,3 +1,4 @@
+pub mod Both
 pub mod Bridge
 pub mod Charges
 pub mod Extremes
