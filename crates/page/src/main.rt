@@ -7,7 +7,7 @@ mod text;
 use filter::Placements;
 use filter::Spot;
 use libc::STDIN_FILENO;
-ghost use Prim.Native.Nat.{_+_, _*_, _<_, _≤_};
+ghost use Prim.Native.Nat.{_+_, _<_, _≤_};
 ghost use lib.ListN.{length};
 
 // Width, height and ticket length.
@@ -48,8 +48,8 @@ fn larger(a: usize, b: usize) -> usize
     if a < b { b } else { a }
 }
 
-// The scratch that a page needs, or as much as there is. Only a page with a zero side can need more than there is, and such a
-// page is refused for its sides before the job looks at its scratch.
+// The scratch that a page needs, or all 65,536 bytes of the buffer. Only a page with a zero side can need more, as any other
+// has sides of 8192 at most, and it is refused for its sides before the job looks at its scratch: the answer is the same.
 fn scratch_lent(w: usize, h: usize, pixels: usize) -> usize
     requires { ⌜ w < 65536 ⌝ }
     requires { ⌜ h < 65536 ⌝ }
@@ -113,7 +113,7 @@ fn lay_out(ticket: &[u8], w: usize, h: usize, pixels: usize, source: &[u8])
     );
 }
 
-// Judges the input, whole as it is, and goes on with a page of it.
+// Judges the input, and answers it: only what is exactly as long as its head says is a page.
 fn answer(input: &[u8]) {
     if input.len() < HEAD {
         text::print_bad_input();

@@ -50,11 +50,12 @@ fn put_pixel(text: &mut [u8], at: usize, pixel: u8, mark: u8) -> usize
     put(text, end, true, mark)
 }
 
-// The pixels of a row that are left, this one's taken; a full row is left where this one ended its own.
+// How many pixels are left of the row behind one more of them, or the next row's w where it was the last.
 fn left_after(left: usize, w: usize) -> usize {
     if 1 < left { left - 1 } else { w }
 }
 
+// What stands before the pixels that are left: a blank inside a row, a newline before a whole one.
 fn mark_before(left: usize, w: usize) -> u8 {
     if left < w { b' ' } else { b'\n' }
 }
@@ -75,7 +76,7 @@ fn put_page(text: &mut [u8], page: &[u8], w: usize) -> usize
     at
 }
 
-// The rows are collected and written at once: a call for each pixel would take most of the program's time.
+// The rows are collected and written by one call, not by two for each of up to 8192 pixels.
 pub fn print_done(work: u64, page: &[u8], w: usize)
     requires { ⌜ length (now page) ≤ 8192 ⌝ }
 {
