@@ -1,12 +1,12 @@
 -- What the sides and the line of a grid bound: numbers that the code computes fit, and the tables are long enough.
 -- Assumes nothing.
-use mathlib.Core.Path.{_≡_, refl, sym, ap, _∙_}
+use mathlib.Core.Path.{_≡_, sym, ap, _∙_}
 use Prim.Native.Nat.{ℕ, suc, _+_, _-_, _*_, _%_, _/_, _≤_, _<_}
 use native.Mathlib.Nat.{mul-le-mul-left, mul-le-mul-right, mul-one, suc-mul, div-add-mod', le-trans}
 use native.Mathlib.Omega.{arith}
 use Rattle.geometry.specs.Line.{period, stepOf}
 use Rattle.geometry.specs.Drift.{drift, reach}
-use Rattle.geometry.specs.Laws.{period-forward, drift-bound, reach-by, drift-zero}
+use Rattle.geometry.specs.Laws.{period-forward, drift-bound, reach-by}
 use mathlib.Core.List.{List}
 use lib.ListN.{getD}
 use Rattle.sweep.specs.Grid.{Pixel, startRow, lineName, entry}

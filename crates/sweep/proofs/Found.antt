@@ -1,16 +1,16 @@
 -- A place that the code found, and whether it is none: what that says of the step. Assumes nothing.
-use mathlib.Core.Path.{_≡_, sym, ap, _∙_}
+use mathlib.Core.Path.{_≡_, sym, _∙_}
 use mathlib.Core.Bool.{Bool, true, false}
 use mathlib.Core.List.{List}
-use Prim.Native.Nat.{ℕ, suc, _+_, _*_, _%_, _≤_, _<_}
+use Prim.Native.Nat.{ℕ, _<_}
 use native.Mathlib.Omega.{arith}
 use lib.Dec.{eqb}
 use borrow.Author.Tests.{eqb-true, eqb-false}
-use Rattle.sweep.specs.Grid.{Pixel, startRow, lineName, number, spot}
+use Rattle.sweep.specs.Grid.{Pixel, startRow, lineName, spot}
 use Rattle.sweep.specs.GridLaws.{OnPage, spot-below, spot-there}
 use Rattle.sweep.specs.Sweeps.{size}
 use Rattle.sweep.specs.declared.Grid.{Grid}
-use Rattle.sweep.proofs.Making.{u, z, small}
+use Rattle.sweep.proofs.Making.{small}
 
 module _ (g : Grid) (profile reaches : List ℕ) (R t x : ℕ) (at : Pixel g profile reaches R t x) where
   module _ (s place : ℕ) (found : place ≡ spot g (startRow g R) (lineName g R x) s) where
@@ -27,21 +27,3 @@ module _ (g : Grid) (profile reaches : List ℕ) (R t x : ℕ) (at : Pixel g pro
       found-on passed =
           let ne : place ≡ size g → ⊥ = eqb-false place (size g) (sym told ∙ passed) in
           spot-there g (at .sized) (startRow g R) (lineName g R x) s (λ e. ne (found ∙ e))
-
-  -- a test of a number against the blocks
-  module _ (k : ℕ) (is : k ≡ number g R x) (told : Bool) where
-    pub block-begins : told ≡ eqb (k % g .length) 0 → told ≡ true → number g R x % g .length ≡ 0
-    block-begins e taken = eqb-true (number g R x % g .length) 0 (ap (λ (q : ℕ). eqb (q % g .length) 0) (sym is) ∙ sym e ∙ taken)
-
-    pub block-goes : told ≡ eqb (k % g .length) 0 → told ≡ false → 0 < number g R x % g .length
-    block-goes e passed =
-        let ne : number g R x % g .length ≡ 0 → ⊥ = eqb-false (number g R x % g .length) 0 (ap (λ (q : ℕ). eqb (q % g .length) 0) (sym is) ∙ sym e ∙ passed) in
-        omega arith
-
-    pub block-ends : told ≡ eqb (suc k % g .length) 0 → told ≡ true → suc (number g R x) % g .length ≡ 0
-    block-ends e taken = eqb-true (suc (number g R x) % g .length) 0 (ap (λ (q : ℕ). eqb (suc q % g .length) 0) (sym is) ∙ sym e ∙ taken)
-
-    pub block-lasts : told ≡ eqb (suc k % g .length) 0 → told ≡ false → 0 < suc (number g R x) % g .length
-    block-lasts e passed =
-        let ne : suc (number g R x) % g .length ≡ 0 → ⊥ = eqb-false (suc (number g R x) % g .length) 0 (ap (λ (q : ℕ). eqb (suc q % g .length) 0) (sym is) ∙ sym e ∙ passed) in
-        omega arith

@@ -1,20 +1,20 @@
 -- What the sweeps make at a pixel is what its line's laws say (BlockLaws), with its cost. Assumes nothing.
-use mathlib.Core.Path.{_≡_, refl, sym, ap, ap₂, _∙_, subst}
-use mathlib.Core.Bool.{Bool, true, false, _||_, cond, or-true}
+use mathlib.Core.Path.{_≡_, sym, ap, ap₂, _∙_, subst}
+use mathlib.Core.Bool.{Bool, false, _||_, cond, or-true}
 use mathlib.Core.List.{List}
-use mathlib.Core.Logic.{_⊎_, inl, inr, ⊎-elim, by-cases}
-use Prim.Native.Nat.{ℕ, zero, suc, _+_, _-_, _*_, _%_, _≤_, _<_}
+use mathlib.Core.Logic.{_⊎_, ⊎-elim, by-cases}
+use Prim.Native.Nat.{ℕ, suc, _+_, _-_, _%_, _≤_, _<_}
 use native.Mathlib.Nat.{mod-le, mod-lt}
 use native.Mathlib.Decide.{decLt}
 use native.Mathlib.Omega.{arith}
-use lib.ListN.{getD, length}
+use lib.ListN.{length}
 use lib.Dec.{eqb}
 use borrow.Author.Tests.{eq-eqb, ne-eqb}
 use Rattle.geometry.specs.Line.{period, stepOf}
 use Rattle.sweep.specs.Span.{chosen}
 use Rattle.sweep.specs.Block.{fromStart, toEnd, windowed, rightward, leftward, resulting}
 use Rattle.sweep.specs.BlockLaws.{fromStart-first, fromStart-next, toEnd-last, toEnd-next, result-whole, result-across, result-cut, result-short, result-early, result-all}
-use Rattle.sweep.specs.Grid.{Page, Pixel, startRow, lineName, entry, leave, steps, rowAt, columnAt, along, number, lineSteps, toEndAt, fromStartAt, windowedAt, rightwardAt, leftwardAt, resultingAt, spot}
+use Rattle.sweep.specs.Grid.{Page, Pixel, startRow, lineName, entry, leave, steps, rowAt, columnAt, along, number, lineSteps, toEndAt, fromStartAt, windowedAt, rightwardAt, leftwardAt, resultingAt}
 use Rattle.sweep.specs.GridLaws.{OnPage, on-line, on-page, own-step, start-small, row-again, column-again, number-is, number-below, page-on, toEnd-on, fromStart-on}
 use Rattle.sweep.specs.declared.Grid.{Grid}
 

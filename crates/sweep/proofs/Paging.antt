@@ -3,13 +3,13 @@ use mathlib.Core.Path.{_≡_, refl, sym, ap, _∙_}
 use mathlib.Core.List.{List}
 use mathlib.Core.Logic.{by-cases}
 use Prim.Native.Nat.{ℕ, zero, suc, _+_, _-_, _*_, _≤_, _<_, zero-le}
-use native.Mathlib.Nat.{mul-le-mul-right, suc-mul, zero-mul, zero-add, add-zero, add-assoc}
+use native.Mathlib.Nat.{mul-le-mul-right, suc-mul, zero-mul, zero-add, add-assoc}
 use native.Mathlib.Numerals.{add-one}
 use native.Mathlib.Decide.{decLt}
 use native.Mathlib.Omega.{arith}
-use lib.ListN.{length, getD}
+use lib.ListN.{getD}
 use Rattle.sweep.specs.Grid.{Page, toEndAt, fromStartAt, windowedAt}
-use Rattle.sweep.specs.Sweeps.{size, target, newAt, costAt, RowsHold, Ready, RowReady, RowDone, RowSwept, Kept, total, PageReady, rowCost, RowsDone, Swept, GoesDown, sweepCost, Passed}
+use Rattle.sweep.specs.Sweeps.{size, target, newAt, costAt, RowsHold, Ready, PartReady, RowSwept, Kept, total, PageReady, rowCost, RowsDone, Swept, GoesDown, sweepCost}
 use Rattle.sweep.specs.declared.Grid.{Grid}
 use Rattle.sweep.specs.declared.Sweep.{Sweep}
 use Rattle.sweep.specs.declared.Sweep.the-variants.{Backward, Forward, Result}
@@ -30,14 +30,14 @@ rows-none sweep g n old =
 
 -- ---- what a row of a sweep finds, once the rows before it are swept
 
-down-ready : (sweep : Sweep) (g : Grid) (n count : ℕ) (old new : List ℕ) (f : Page) → GoesDown sweep → n < g .height → RowsDone sweep g 0 n old new count → PageReady sweep g old f → RowReady sweep g new f n
+down-ready : (sweep : Sweep) (g : Grid) (n count : ℕ) (old new : List ℕ) (f : Page) → GoesDown sweep → n < g .height → RowsDone sweep g 0 n old new count → PageReady sweep g old f → PartReady sweep g new f n 0 (g .width)
 unfolding Ready PageReady RowsHold target newAt
-down-ready Backward g n count old new f goes rows done ready x columns = absurd goes
-down-ready Forward g n count old new f goes rows done ready x columns = (
+down-ready Backward g n count old new f goes rows done ready x from columns = absurd goes
+down-ready Forward g n count old new f goes rows done ready x from columns = (
   done .kept .above (n * g .width + x) (omega arith) ∙ ap (λ (i : ℕ). getD old i 0) (sym (zero-add (n * g .width + x))) ∙ ready n (omega arith) rows x columns,
   done .made f ready,
 )
-down-ready Result g n count old new f goes rows done ready x columns = (
+down-ready Result g n count old new f goes rows done ready x from columns = (
   done .kept .above (n * g .width + x) (omega arith) ∙ ap (λ (i : ℕ). getD old i 0) (sym (zero-add (n * g .width + x))) ∙ ready .0 n (omega arith) rows x columns,
   λ R lo hi x′ k.
       let far : suc n * g .width ≤ R * g .width = mul-le-mul-right (g .width) lo in
@@ -46,9 +46,9 @@ down-ready Result g n count old new f goes rows done ready x columns = (
       done .kept .above (size g + (R * g .width + x′)) (omega (arith, place-below n x (g .height) (g .width) rows columns)) ∙ ready .1 R lo hi x′ k,
 )
 
-up-ready : (g : Grid) (n count : ℕ) (old new : List ℕ) (f : Page) → n < g .height → RowsDone Backward g (suc n) (g .height) old new count → PageReady Backward g old f → RowReady Backward g new f n
+up-ready : (g : Grid) (n count : ℕ) (old new : List ℕ) (f : Page) → n < g .height → RowsDone Backward g (suc n) (g .height) old new count → PageReady Backward g old f → PartReady Backward g new f n 0 (g .width)
 unfolding Ready PageReady RowsHold target newAt
-up-ready g n count old new f rows done ready x columns = (
+up-ready g n count old new f rows done ready x from columns = (
   done .kept .below (n * g .width + x) (omega (arith, place-below n x (g .height) (g .width) rows columns)) ∙ ap (λ (i : ℕ). getD old i 0) (sym (zero-add (n * g .width + x))) ∙ ready n zero-le rows x columns,
   done .made f ready,
 )
@@ -88,14 +88,15 @@ module _ (sweep : Sweep) (g : Grid) (n : ℕ) (old mid new : List ℕ) (count mo
           let e : R ≡ n = omega arith in
           ap (λ (r : ℕ). getD new (target sweep g + (r * g .width + x)) 0) e
           ∙ ap (λ (i : ℕ). getD new i 0) (sym (placed x))
-          ∙ row .made f (down-ready sweep g n count old mid f goes rows done ready) x columns
+          ∙ row .made f (down-ready sweep g n count old mid f goes rows done ready) x zero-le columns
           ∙ ap (λ (r : ℕ). newAt sweep g f r x) (sym e)
 
       sum : RowsDone sweep g 0 n old mid count → RowSwept sweep g n mid new more → count + more ≡ total (rowCost sweep g) 0 (n + 1 - 0)
       sum done row =
           let a : n - 0 ≡ n = omega arith in
           let b : n + 1 - 0 ≡ n + 1 = omega arith in
-          omega (arith, done .counted, row .counted, ap (total (rowCost sweep g) 0) a, ap (total (rowCost sweep g) 0) b, total-more (rowCost sweep g) 0 n, ap (rowCost sweep g) (zero-add n))
+          let w : g .width - 0 ≡ g .width = omega arith in
+          omega (arith, ap (total (costAt sweep g n) 0) w, done .counted, row .counted, ap (total (rowCost sweep g) 0) a, ap (total (rowCost sweep g) 0) b, total-more (rowCost sweep g) 0 n, ap (rowCost sweep g) (zero-add n))
 
 module _ (g : Grid) (n : ℕ) (old mid new : List ℕ) (count more : ℕ) (rows : n < g .height) where
   pub up-more : RowsDone Backward g (suc n) (g .height) old mid count → RowSwept Backward g n mid new more → RowsDone Backward g n (g .height) old new (count + more)
@@ -107,7 +108,7 @@ module _ (g : Grid) (n : ℕ) (old mid new : List ℕ) (count more : ℕ) (rows 
         kept =
             record {
               same-length = row .kept .same-length ∙ done .kept .same-length;
-              below = λ k h. row .kept .below k h ∙ done .kept .below k (omega arith);
+              below = λ k h. row .kept .below k (omega arith) ∙ done .kept .below k (omega arith);
               above = λ k h. row .kept .above k (omega arith) ∙ done .kept .above k h;
             };
         made = λ f ready R lo hi x columns. by-cases (decLt n R) (λ h. after f ready R h hi x columns done row) (λ h. here f ready R h lo x columns done row);
@@ -126,13 +127,14 @@ module _ (g : Grid) (n : ℕ) (old mid new : List ℕ) (count more : ℕ) (rows 
           let e : R ≡ n = omega arith in
           ap (λ (r : ℕ). getD new (target Backward g + (r * g .width + x)) 0) e
           ∙ ap (λ (i : ℕ). getD new i 0) (sym (placed Backward g n old mid new count more rows x))
-          ∙ row .made f (up-ready g n count old mid f rows done ready) x columns
+          ∙ row .made f (up-ready g n count old mid f rows done ready) x zero-le columns
           ∙ ap (λ (r : ℕ). newAt Backward g f r x) (sym e)
 
       sum : RowsDone Backward g (suc n) (g .height) old mid count → RowSwept Backward g n mid new more → count + more ≡ total (rowCost Backward g) n (g .height - n)
       sum done row =
           let a : g .height - n ≡ suc (g .height - suc n) = omega arith in
-          omega (arith, done .counted, row .counted, ap (total (rowCost Backward g) n) a, total-first (rowCost Backward g) n (g .height - suc n))
+          let w : g .width - 0 ≡ g .width = omega arith in
+          omega (arith, ap (total (costAt Backward g n) 0) w, done .counted, row .counted, ap (total (rowCost Backward g) n) a, total-first (rowCost Backward g) n (g .height - suc n))
 
 -- ---- the three sweeps of a pass
 
@@ -178,6 +180,11 @@ module _ (g : Grid) (old one two three : List ℕ) (a b c : ℕ) (first : Swept 
 -- a sweep's comparisons are at most the page's pixels
 pub row-cost-most : (sweep : Sweep) (g : Grid) (R : ℕ) → rowCost sweep g R ≤ g .width
 row-cost-most sweep g R = total-most (costAt sweep g R) (cost-most sweep g R) 0 (g .width)
+
+pub row-few : (sweep : Sweep) (g : Grid) (R : ℕ) (old new : List ℕ) (count : ℕ) → RowSwept sweep g R old new count → count ≤ g .width
+row-few sweep g R old new count row =
+    let w : g .width - 0 ≡ g .width = omega arith in
+    omega (arith, row .counted, ap (total (costAt sweep g R) 0) w, row-cost-most sweep g R)
 
 pub total-bound : (cost : ℕ → ℕ) (w : ℕ) → ((k : ℕ) → cost k ≤ w) → (k n : ℕ) → total cost k n ≤ n * w
 unfolding total

@@ -1,13 +1,11 @@
 -- What a sweep reads at a step of a pixel's line, where the rows that it reads hold their page. Assumes nothing.
-use mathlib.Core.Path.{_≡_, refl, sym, ap, ap₂, _∙_}
+use mathlib.Core.Path.{_≡_, sym, ap, ap₂, _∙_}
 use mathlib.Core.List.{List}
-use mathlib.Core.Logic.{by-cases}
 use Prim.Native.Nat.{ℕ, zero, suc, _+_, _-_, _*_, _%_, _≤_, _<_, zero-le}
 use native.Mathlib.Nat.{mul-le-mul-right, suc-mul, zero-add, add-zero, mod-lt}
-use native.Mathlib.Decide.{decLt}
 use native.Mathlib.Omega.{arith}
 use lib.ListN.{getD}
-use Rattle.geometry.specs.Line.{period, stepOf}
+use Rattle.geometry.specs.Line.{period}
 use Rattle.geometry.specs.Laws.{period-forward}
 use Rattle.sweep.specs.Grid.{Page, Pixel, rowAt, columnAt, number, toEndAt, spot}
 use Rattle.sweep.specs.GridLaws.{OnPage, row-fits, column-fits, row-again, column-again, spot-on}

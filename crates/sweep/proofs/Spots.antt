@@ -1,11 +1,11 @@
 -- The place of a step of a pixel's line, as the code finds it. Assumes nothing.
-use mathlib.Core.Path.{_≡_, refl, sym, ap, ap₂, _∙_}
+use mathlib.Core.Path.{_≡_, sym, ap, ap₂, _∙_}
 use mathlib.Core.List.{List}
-use Prim.Native.Nat.{ℕ, suc, _+_, _-_, _*_, _≤_, _<_}
+use Prim.Native.Nat.{ℕ, _+_, _-_, _*_, _≤_, _<_}
 use native.Mathlib.Nat.{mul-le-mul-left, mul-one}
 use native.Mathlib.Omega.{arith}
-use lib.ListN.{getD, length}
-use Rattle.geometry.specs.Line.{period, stepOf}
+use lib.ListN.{getD}
+use Rattle.geometry.specs.Line.{period}
 use Rattle.geometry.specs.Drift.{drift}
 use Rattle.geometry.specs.Laws.{period-forward, drift-bound}
 use Rattle.sweep.specs.Grid.{Pixel, startRow, lineName, rowAt, columnAt, spot}

@@ -1,21 +1,21 @@
 -- The laws of lines in normal form (Grid): which steps are in the page, that a pixel is found again from its line and step, and that
 -- the running extremes at a pixel are those of its line.
 -- Assumes nothing.
-use mathlib.Core.Path.{_≡_, refl, sym, ap, ap₂, _∙_}
-use mathlib.Core.Bool.{Bool, true, false, _&&_, _||_, cond}
+use mathlib.Core.Path.{_≡_, refl, ap, _∙_}
+use mathlib.Core.Bool.{Bool, true, false, _||_}
 use mathlib.Core.Logic.{_⊎_, inl, inr, ⊎-elim, by-cases}
-use Prim.Native.Nat.{ℕ, zero, suc, _+_, _-_, _*_, _/_, _%_, _≤_, _<_}
+use Prim.Native.Nat.{ℕ, suc, _+_, _-_, _*_, _/_, _%_, _≤_, _<_}
 use native.Mathlib.Nat.{mul-le-mul-left, mul-le-mul-right, mul-one, suc-mul, mod-lt, mod-eq-of-lt, div-eq-of-lt, add-mul-div-right, add-mul-mod-self-right, div-add-mod', zero-add, add-comm}
 use native.Mathlib.Decide.{decLt, decLe}
 use native.Mathlib.Omega.{arith}
-use lib.Dec.{leb, ltb}
+use lib.Dec.{leb}
 use borrow.Author.Tests.{leb-true, leb-false, le-leb, lt-leb, lt-ltb, le-ltb}
 use Rattle.geometry.specs.Line.{period, stepOf}
-use Rattle.geometry.specs.Drift.{Sound, drift, reach, first}
-use Rattle.geometry.specs.Laws.{period-forward, drift-rises, drift-zero, drift-bound, reach-before, reach-at, reach-by}
-use Rattle.geometry.specs.Counting.{First, first-is-first}
-use Rattle.sweep.specs.Grid.{Page, startRow, lineName, entry, leave, steps, rowAt, columnAt, along, number, lineSteps, fromStartAt, toEndAt, windowedAt, spot, Sized}
-use Rattle.sweep.specs.Block.{fromStart, toEnd, windowed}
+use Rattle.geometry.specs.Drift.{drift, reach, first}
+use Rattle.geometry.specs.Laws.{period-forward, drift-rises, reach-at, reach-by}
+use Rattle.geometry.specs.Counting.{first-is-first}
+use Rattle.sweep.specs.Grid.{Page, startRow, lineName, entry, leave, steps, rowAt, columnAt, along, number, lineSteps, fromStartAt, toEndAt, spot, Sized}
+use Rattle.sweep.specs.Block.{fromStart, toEnd}
 use Rattle.sweep.specs.declared.Grid.{Grid}
 
 -- a step of a line that is in the page
@@ -39,7 +39,7 @@ module _ (g : Grid) (sized : Sized g) where
       let k : s * 1 ≤ s * period (g .line) = mul-le-mul-left s (period-forward (g .line) (sized .sound)) in
       omega (arith, mul-one s)
 
-  entry-at : (z s : ℕ) → entry g z ≤ s → s < g .height → z ≤ g .width + drift (g .line) s
+  pub entry-at : (z s : ℕ) → entry g z ≤ s → s < g .height → z ≤ g .width + drift (g .line) s
   unfolding entry
   entry-at z s h k =
       let e : z - g .width ≤ drift (g .line) (reach (g .line) (z - g .width) (g .height)) =
@@ -47,7 +47,7 @@ module _ (g : Grid) (sized : Sized g) where
       let r : drift (g .line) (reach (g .line) (z - g .width) (g .height)) ≤ drift (g .line) s = drift-rises (g .line) (sized .sound) h in
       omega arith
 
-  entry-by : (z s : ℕ) → z ≤ g .width + drift (g .line) s → entry g z ≤ s
+  pub entry-by : (z s : ℕ) → z ≤ g .width + drift (g .line) s → entry g z ≤ s
   unfolding entry
   entry-by z s h = reach-by (g .line) (z - g .width) (g .height) s (omega arith)
 

@@ -4,3 +4,4 @@ pub mod BlockLaws
 pub mod Grid
 pub mod GridLaws
 pub mod Sweeps
+pub mod Runs

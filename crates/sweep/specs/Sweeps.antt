@@ -63,18 +63,18 @@ pub record Across (g : Grid) (bytes : List ℕ) (R t x inside rest : ℕ) : Type
   pub inside-some : 0 < inside
   pub rest-is : rest ≡ getD bytes (size g + spot g (startRow g R) (lineName g R x) (t - g .back)) 0
 
--- what a sweep finds in a whole row
-abbrev pub RowReady : Sweep → Grid → List ℕ → Page → ℕ → Type 0
-RowReady sweep g bytes f R = (x : ℕ) → x < g .width → Ready sweep g bytes f R x
+-- what a sweep finds in a part of a row, from column lo up to hi
+abbrev pub PartReady : Sweep → Grid → List ℕ → Page → ℕ → ℕ → ℕ → Type 0
+PartReady sweep g bytes f R lo hi = (x : ℕ) → lo ≤ x → x < hi → Ready sweep g bytes f R x
 
--- a row swept up to column n: its new values, everything else as it was, and the comparisons counted
-pub record RowDone (sweep : Sweep) (g : Grid) (R : ℕ) (old new : List ℕ) (n count : ℕ) : Type 0 where
-  pub kept : Kept (target sweep g + R * g .width) (target sweep g + R * g .width + n) old new
-  pub made : (f : Page) → RowReady sweep g old f R → (x : ℕ) → x < n → getD new (target sweep g + R * g .width + x) 0 ≡ newAt sweep g f R x
-  pub counted : count ≡ total (costAt sweep g R) 0 n
+-- a part of a row is swept: its new values, everything else as it was, and the comparisons counted
+pub record PartDone (sweep : Sweep) (g : Grid) (R lo hi : ℕ) (old new : List ℕ) (count : ℕ) : Type 0 where
+  pub kept : Kept (target sweep g + R * g .width + lo) (target sweep g + R * g .width + hi) old new
+  pub made : (f : Page) → PartReady sweep g old f R lo hi → (x : ℕ) → lo ≤ x → x < hi → getD new (target sweep g + R * g .width + x) 0 ≡ newAt sweep g f R x
+  pub counted : count ≡ total (costAt sweep g R) lo (hi - lo)
 
 abbrev pub RowSwept : Sweep → Grid → ℕ → List ℕ → List ℕ → ℕ → Type 0
-RowSwept sweep g R old new count = RowDone sweep g R old new (g .width) count
+RowSwept sweep g R old new count = PartDone sweep g R 0 (g .width) old new count
 
 -- ---- whole pages
 

@@ -6,13 +6,21 @@
 // of a page in normal form), Sweeps (what each sweep makes, finds and costs); BlockLaws and GridLaws are what follows from them.
 //
 //     rows    the three sweeps, and the pass
-//     pixel   what each sweep makes at a pixel; the one place that compares and counts
+//     row     one row of each sweep
+//     plans   how a row is made: what is written, what is read, where blocks begin
+//     walk    a plan carried out, lane by lane and run by run
+//     run     runs of neighbouring bytes: copied, or compared and counted
+//     pixel   results at the page's far edge, pixel by pixel
 //     step    where the steps of a pixel's line stand
 use geometry::Line;
 
 mod pixel;
+mod plans;
+mod row;
 pub mod rows;
+mod run;
 mod step;
+mod walk;
 
 // The page's sides, its line, and the window: how far it reaches back and on from a pixel, and its length, back + 1 + on.
 pub struct Grid {
@@ -30,6 +38,18 @@ pub struct Grid {
 pub struct Made {
     pub value: u8,
     pub count: usize,
+}
+
+// How a part of a row is made, from column lo up to hi: written from place `to` on, copied from `copy` in the lanes whose lines are at a
+// block's first step, counted from step `top`, and chosen of `first` and `second` between them. All places are those of column lo.
+pub struct Plan {
+    pub lo: usize,
+    pub hi: usize,
+    pub to: usize,
+    pub copy: usize,
+    pub first: usize,
+    pub second: usize,
+    pub top: usize,
 }
 
 // The three sweeps of a pass.

@@ -1,26 +1,18 @@
-// What each sweep makes at a pixel: a value, and the comparison it cost. A comparison is counted where it is done.
+// Results at the page's far edge, where the window ends past its line: pixel by pixel, as lines that entered from the side each have their own
+// next block.
 ghost use mathlib.Core.Path.{_≡_};
-ghost use Prim.Native.Nat.{suc, _+_, _*_, _%_, _<_, _≤_};
+ghost use Prim.Native.Nat.{_+_, _*_, _<_, _≤_};
 ghost use lib.ListN.{length, getD};
 ghost use lib.Dec.{eqb};
 ghost use Rattle.sweep.specs.Span.{chosen};
-ghost use Rattle.sweep.specs.Grid.{Page, Sized, Pixel, number, toEndAt, fromStartAt, windowedAt, leftwardAt, rightwardAt, resultingAt};
-ghost use Rattle.sweep.specs.Sweeps.{Ready, Across, size, newAt, costAt};
+ghost use Rattle.sweep.specs.Grid.{Page, Sized, Pixel, startRow, lineName, number, windowedAt, resultingAt};
+ghost use Rattle.sweep.specs.GridLaws.{OnPage};
+ghost use Rattle.sweep.specs.Sweeps.{Ready, Across, size};
 use super::Grid;
 use super::Made;
 use super::Sweep;
+use super::run;
 use super::step;
-
-// Of two values the lower, or the higher.
-fn chosen_of(low: bool, a: u8, b: u8) -> u8
-    ensures { λ r. ⌜ r ≡ chosen low a b ⌝ }
-{
-    if low {
-        if a < b { a } else { b }
-    } else {
-        if a < b { b } else { a }
-    }
-}
 
 // A value that cost nothing.
 fn as_is(value: u8) -> Made
@@ -34,7 +26,7 @@ fn compared(low: bool, a: u8, b: u8) -> Made
     ensures { λ r. ⌜ (r .value ≡ chosen low a b) × (r .count ≡ 1) ⌝ }
 {
     Made {
-        value: chosen_of(low, a, b),
+        value: run::chosen_of(low, a, b),
         count: 1,
     }
 }
@@ -54,21 +46,6 @@ fn number_at(
     step - step::entry_at(g, profile, reaches, row, step, x)
 }
 
-// Whether a step with this number is the last of a full block, and whether it is the first of a block.
-fn ends_block(g: Grid, number: usize) -> bool
-    requires { ⌜ Sized g × (number < 8192) ⌝ }
-    ensures { λ r. ⌜ r ≡ eqb (suc number % g .length) 0 ⌝ }
-{
-    (number + 1) % g.length == 0
-}
-
-fn begins_block(g: Grid, number: usize) -> bool
-    requires { ⌜ Sized g ⌝ }
-    ensures { λ r. ⌜ r ≡ eqb (number % g .length) 0 ⌝ }
-{
-    number % g.length == 0
-}
-
 // Whether a place is none: the step is off the page.
 fn is_off(g: Grid, at: usize) -> bool
     requires { ⌜ Sized g ⌝ }
@@ -77,23 +54,7 @@ fn is_off(g: Grid, at: usize) -> bool
     at == g.height * g.width
 }
 
-// The pixel's own value in page A.
-fn own_value(g: Grid, bytes: &[u8], row: usize, x: usize) -> u8
-    requires { ⌜ Sized g × (row < g .height) × (x < g .width) × (size g + size g ≤ length (now bytes)) ⌝ }
-    ensures { λ r. ⌜ r ≡ getD (now (bytes .entry)) (row * g .width + x) 0 ⌝ }
-{
-    let width = g.width;
-    bytes[row * width + x]
-}
-
-// The value at a place of page A, and of page B.
-fn value_a(g: Grid, bytes: &[u8], at: usize) -> u8
-    requires { ⌜ (at < size g) × (size g + size g ≤ length (now bytes)) ⌝ }
-    ensures { λ r. ⌜ r ≡ getD (now (bytes .entry)) at 0 ⌝ }
-{
-    bytes[at]
-}
-
+// The value at a place of page B.
 fn value_b(g: Grid, bytes: &[u8], at: usize) -> u8
     requires { ⌜ Sized g × (at < size g) × (size g + size g ≤ length (now bytes)) ⌝ }
     ensures { λ r. ⌜ r ≡ getD (now (bytes .entry)) (size g + at) 0 ⌝ }
@@ -102,54 +63,7 @@ fn value_b(g: Grid, bytes: &[u8], at: usize) -> u8
     bytes[size + at]
 }
 
-// The running extreme to the block's end: from the next pixel of the line, unless it begins a block or is off the page.
-fn backward_at(
-    g: Grid,
-    profile: &[usize],
-    reaches: &[usize],
-    bytes: &[u8],
-    row: usize,
-    step: usize,
-    x: usize,
-) -> Made
-    requires { ⌜ Pixel g (now profile) (now reaches) row step x × (size g + size g ≤ length (now bytes)) ⌝ }
-    ensures { λ r. ⌜ ((f : Page) → Ready Sweep.Backward g (now (bytes .entry)) f row x → r .value ≡ toEndAt g f row x) × (r .count ≡ leftwardAt g row x) ⌝ }
-{
-    let own = own_value(g, bytes, row, x);
-    let number = number_at(g, profile, reaches, row, step, x);
-    if ends_block(g, number) {
-        return as_is(own);
-    }
-    let next = step::spot_at(g, profile, reaches, row, step, x, step + 1);
-    if is_off(g, next) {
-        return as_is(own);
-    }
-    compared(g.low, own, value_b(g, bytes, next))
-}
-
-// The running extreme from the block's start: from the pixel before, unless this one begins a block.
-fn forward_at(
-    g: Grid,
-    profile: &[usize],
-    reaches: &[usize],
-    bytes: &[u8],
-    row: usize,
-    step: usize,
-    x: usize,
-) -> Made
-    requires { ⌜ Pixel g (now profile) (now reaches) row step x × (size g + size g ≤ length (now bytes)) ⌝ }
-    ensures { λ r. ⌜ ((f : Page) → Ready Sweep.Forward g (now (bytes .entry)) f row x → r .value ≡ fromStartAt g f row x) × (r .count ≡ rightwardAt g row x) ⌝ }
-{
-    let own = own_value(g, bytes, row, x);
-    let number = number_at(g, profile, reaches, row, step, x);
-    if begins_block(g, number) {
-        return as_is(own);
-    }
-    let before = step::spot_at(g, profile, reaches, row, step, x, step - 1);
-    compared(g.low, value_a(g, bytes, before), own)
-}
-
-// The result where the window begins before the line: all in the line's first block.
+// The result where the window begins before the line: the whole line.
 fn early_at(
     g: Grid,
     profile: &[usize],
@@ -159,20 +73,16 @@ fn early_at(
     step: usize,
     x: usize,
 ) -> Made
-    requires { ⌜ Pixel g (now profile) (now reaches) row step x × (size g + size g ≤ length (now bytes)) × (number g row x < g .back) ⌝ }
+    requires { ⌜ Pixel g (now profile) (now reaches) row step x × (size g + size g ≤ length (now bytes)) × (OnPage g (startRow g row) (lineName g row x) (step + g .on) → ⊥) ⌝ }
+    requires { ⌜ number g row x < g .back ⌝ }
     ensures { λ r. ⌜ ((f : Page) → Ready Sweep.Result g (now (bytes .entry)) f row x → r .value ≡ windowedAt g f row x) × (r .count ≡ resultingAt g row x) ⌝ }
 {
-    let end = step::spot_at(g, profile, reaches, row, step, x, step + g.on);
-    if is_off(g, end) {
-        let entry = step::entry_at(g, profile, reaches, row, step, x);
-        let first = step::spot_at(g, profile, reaches, row, step, x, entry);
-        return as_is(value_b(g, bytes, first));
-    }
-    as_is(value_a(g, bytes, end))
+    let entry = step::entry_at(g, profile, reaches, row, step, x);
+    let first = step::spot_at(g, profile, reaches, row, step, x, entry);
+    as_is(value_b(g, bytes, first))
 }
 
-// The result where the window begins in the line, at a step `inside` its block: what the next block has of it, from its
-// start or, where the line ends before the window does, to its end.
+// The result where the window begins in the line, at a step `inside` its block: the rest of that block, and the next one, if the line has it.
 fn across_at(
     g: Grid,
     profile: &[usize],
@@ -184,14 +94,10 @@ fn across_at(
     inside: usize,
     rest: u8,
 ) -> Made
-    requires { ⌜ Pixel g (now profile) (now reaches) row step x × (size g + size g ≤ length (now bytes)) ⌝ }
+    requires { ⌜ Pixel g (now profile) (now reaches) row step x × (size g + size g ≤ length (now bytes)) × (OnPage g (startRow g row) (lineName g row x) (step + g .on) → ⊥) ⌝ }
     requires { ⌜ Across g (now bytes) row step x inside rest ⌝ }
     ensures { λ r. ⌜ ((f : Page) → Ready Sweep.Result g (now (bytes .entry)) f row x → r .value ≡ windowedAt g f row x) × (r .count ≡ resultingAt g row x) ⌝ }
 {
-    let end = step::spot_at(g, profile, reaches, row, step, x, step + g.on);
-    if !is_off(g, end) {
-        return compared(g.low, rest, value_a(g, bytes, end));
-    }
     let next = step::spot_at(
         g,
         profile,
@@ -201,13 +107,13 @@ fn across_at(
         x,
         step - g.back + (g.length - inside),
     );
-    if !is_off(g, next) {
-        return compared(g.low, rest, value_b(g, bytes, next));
+    if is_off(g, next) {
+        return as_is(rest);
     }
-    as_is(rest)
+    compared(g.low, rest, value_b(g, bytes, next))
 }
 
-// The result where the window begins in the line: the rest of its first block, and what the next block has of it.
+// The result where the window begins in the line.
 fn reached_at(
     g: Grid,
     profile: &[usize],
@@ -218,7 +124,7 @@ fn reached_at(
     x: usize,
     from: usize,
 ) -> Made
-    requires { ⌜ Pixel g (now profile) (now reaches) row step x × (size g + size g ≤ length (now bytes)) ⌝ }
+    requires { ⌜ Pixel g (now profile) (now reaches) row step x × (size g + size g ≤ length (now bytes)) × (OnPage g (startRow g row) (lineName g row x) (step + g .on) → ⊥) ⌝ }
     requires { ⌜ (from ≡ number g row x) × (g .back ≤ from) ⌝ }
     ensures { λ r. ⌜ ((f : Page) → Ready Sweep.Result g (now (bytes .entry)) f row x → r .value ≡ windowedAt g f row x) × (r .count ≡ resultingAt g row x) ⌝ }
 {
@@ -231,8 +137,8 @@ fn reached_at(
     across_at(g, profile, reaches, bytes, row, step, x, inside, rest)
 }
 
-// The result of a pixel's window.
-fn result_at(
+// The result of a pixel whose window ends past its line.
+pub fn rest_at(
     g: Grid,
     profile: &[usize],
     reaches: &[usize],
@@ -241,7 +147,7 @@ fn result_at(
     step: usize,
     x: usize,
 ) -> Made
-    requires { ⌜ Pixel g (now profile) (now reaches) row step x × (size g + size g ≤ length (now bytes)) ⌝ }
+    requires { ⌜ Pixel g (now profile) (now reaches) row step x × (size g + size g ≤ length (now bytes)) × (OnPage g (startRow g row) (lineName g row x) (step + g .on) → ⊥) ⌝ }
     ensures { λ r. ⌜ ((f : Page) → Ready Sweep.Result g (now (bytes .entry)) f row x → r .value ≡ windowedAt g f row x) × (r .count ≡ resultingAt g row x) ⌝ }
 {
     let number = number_at(g, profile, reaches, row, step, x);
@@ -249,25 +155,4 @@ fn result_at(
         return early_at(g, profile, reaches, bytes, row, step, x);
     }
     reached_at(g, profile, reaches, bytes, row, step, x, number)
-}
-
-// What a sweep makes at a pixel.
-pub fn made_at(
-    sweep: Sweep,
-    g: Grid,
-    profile: &[usize],
-    reaches: &[usize],
-    bytes: &[u8],
-    row: usize,
-    step: usize,
-    x: usize,
-) -> Made
-    requires { ⌜ Pixel g (now profile) (now reaches) row step x × (size g + size g ≤ length (now bytes)) ⌝ }
-    ensures { λ r. ⌜ ((f : Page) → Ready sweep g (now (bytes .entry)) f row x → r .value ≡ newAt sweep g f row x) × (r .count ≡ costAt sweep g row x) ⌝ }
-{
-    match sweep {
-        Sweep::Backward => backward_at(g, profile, reaches, bytes, row, step, x),
-        Sweep::Forward => forward_at(g, profile, reaches, bytes, row, step, x),
-        Sweep::Result => result_at(g, profile, reaches, bytes, row, step, x),
-    }
 }

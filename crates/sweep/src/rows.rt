@@ -3,22 +3,10 @@ ghost use mathlib.Core.Path.{_≡_};
 ghost use Prim.Native.Nat.{_+_, _≤_, _<_};
 ghost use lib.ListN.{length};
 ghost use Rattle.sweep.specs.Grid.{Sized, Tabled};
-ghost use Rattle.sweep.specs.Sweeps.{RowSwept, Swept, GoesDown, Passed, size, target};
+ghost use Rattle.sweep.specs.Sweeps.{RowSwept, Swept, GoesDown, Passed, size};
 use super::Grid;
 use super::Sweep;
-use super::pixel;
-
-// Where a sweep writes.
-fn target_of(sweep: Sweep, g: Grid) -> usize
-    requires { ⌜ Sized g ⌝ }
-    ensures { λ r. ⌜ r ≡ target sweep g ⌝ }
-{
-    match sweep {
-        Sweep::Backward => g.height * g.width,
-        Sweep::Forward => 0,
-        Sweep::Result => 0,
-    }
-}
+use super::row;
 
 // One row of a sweep, and its comparisons.
 fn sweep_row(
@@ -32,18 +20,12 @@ fn sweep_row(
     requires { ⌜ Sized g × Tabled g (now profile) (now reaches) × (row < g .height) × (size g + size g ≤ length (now bytes)) ⌝ }
     ensures { λ r. ⌜ RowSwept sweep g row (now (bytes .entry)) (now (bytes .exit)) r ⌝ }
 {
-    let width = g.width;
     let step = row / g.period;
-    let base = target_of(sweep, g) + row * width;
-    let mut count: usize = 0;
-    let mut x: usize = 0;
-    while x < width {
-        let made = pixel::made_at(sweep, g, profile, reaches, bytes, row, step, x);
-        bytes[base + x] = made.value;
-        count += made.count;
-        x += 1;
+    match sweep {
+        Sweep::Backward => row::backward_row(g, profile, reaches, bytes, row, step),
+        Sweep::Forward => row::forward_row(g, profile, reaches, bytes, row, step),
+        Sweep::Result => row::result_row(g, profile, reaches, bytes, row, step),
     }
-    count
 }
 
 // A sweep down the rows.

@@ -6,7 +6,7 @@ ghost use Rattle.sweep.specs.Grid.{Pixel, startRow, lineName, entry, spo
 use super::Grid;
 
 // An entry of a table.
-fn entry_of(table: &[usize], at: usize) -> usize
+pub fn entry_of(table: &[usize], at: usize) -> usize
     requires { ⌜ at < length (now table) ⌝ }
     ensures { λ r. ⌜ r ≡ getD (now (table .entry)) at 0 ⌝ }
 {

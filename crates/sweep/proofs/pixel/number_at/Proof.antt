@@ -1,7 +1,6 @@
 -- `sweep::pixel::number_at` meets its contract. Assumes nothing.
 use native.Mathlib.Omega.{arith}
 use borrow.Author.Needs.{needs}
-use Rattle.sweep.specs.Grid.{number}
 use Rattle.sweep.proofs.Making.{numbered}
 use Rattle.sweep.proofs.pixel.number_at.Statement.{statement}
 use Rattle.sweep.proofs.pixel.number_at.Tie as tie

@@ -5,7 +5,7 @@ use native.Mathlib.Omega.{arith}
 use borrow.Author.Needs.{needs}
 use Rattle.sweep.specs.Sweeps.{RowsDone}
 use Rattle.sweep.specs.declared.Sweep.the-variants.{Backward}
-use Rattle.sweep.proofs.Paging.{rows-none, up-more, row-cost-most, count-small}
+use Rattle.sweep.proofs.Paging.{rows-none, up-more, row-few, count-small}
 use Rattle.sweep.proofs.rows.backward.Statement.{statement}
 use Rattle.sweep.proofs.rows.backward.Tie as tie
 
@@ -28,7 +28,7 @@ add-count c =
     let start = c .before .before .before .before .before .before .before .before .before in
     let sized = start .pre .0 in
     let l = c .before .before .before .before .before .loop in
-    record { fits = omega (arith, count-small _ _ _ _ _ _ _ (sized .width-most) (sized .height-most) (l .inv .1), c .before .before .sweep-row .ensures .counted, row-cost-most Backward (start .args .g) (l .left - 1), sized .width-most) }
+    record { fits = omega (arith, count-small _ _ _ _ _ _ _ (sized .width-most) (sized .height-most) (l .inv .1), row-few _ _ _ _ _ _ (c .before .before .sweep-row .ensures), sized .width-most) }
 
 loop-less : tie.Need-loop-less Inv-loop μ-loop
 loop-less c = omega arith

@@ -2,9 +2,8 @@
 use mathlib.Core.Path.{_≡_, subst}
 use Prim.Native.Nat.{ℕ, _-_, _≤_}
 use native.Mathlib.Omega.{arith}
-use borrow.Author.Needs.{needs}
 use Rattle.sweep.specs.Sweeps.{RowsDone}
-use Rattle.sweep.proofs.Paging.{rows-none, down-more, row-cost-most, count-small}
+use Rattle.sweep.proofs.Paging.{rows-none, down-more, row-few, count-small}
 use Rattle.sweep.proofs.rows.sweep_down.Statement.{statement}
 use Rattle.sweep.proofs.rows.sweep_down.Tie as tie
 
@@ -27,7 +26,7 @@ add-count c =
     let start = c .before .before .before .before .before .before .before .before .before in
     let sized = start .pre .0 .0 in
     let l = c .before .before .before .before .before .loop in
-    record { fits = omega (arith, count-small _ _ _ _ _ _ _ (sized .width-most) (omega (arith, sized .height-most)) (l .inv .1), c .before .before .sweep-row .ensures .counted, row-cost-most (start .args .sweep) (start .args .g) (l .row), sized .width-most) }
+    record { fits = omega (arith, count-small _ _ _ _ _ _ _ (sized .width-most) (omega (arith, sized .height-most)) (l .inv .1), row-few _ _ _ _ _ _ (c .before .before .sweep-row .ensures), sized .width-most) }
 
 add-row : tie.Need-add-row Inv-loop μ-loop
 add-row c = record { fits = omega (arith, c .before .before .before .before .before .before .before .before .before .pre .0 .0 .height-most) }

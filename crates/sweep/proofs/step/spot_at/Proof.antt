@@ -1,13 +1,11 @@
 -- `sweep::step::spot_at` meets its contract: a step is off the page below it, left of it or right of it, or it has its place.
 -- Assumes nothing.
-use mathlib.Core.Path.{_≡_, sym, ap, ap₂, _∙_}
-use Prim.Native.Nat.{ℕ, _+_, _-_, _*_, _≤_, _<_}
+use mathlib.Core.Path.{ap₂, _∙_}
+use Prim.Native.Nat.{ℕ, _+_, _-_, _*_}
 use native.Mathlib.Nat.{le-of-lt}
 use native.Mathlib.Omega.{arith}
-use borrow.Author.Needs.{needs}
-use lib.ListN.{getD}
 use Rattle.sweep.proofs.Bounds.{row, product}
-use Rattle.sweep.proofs.Spots.{spot-low, to-below, to-read, to-small, spot-left, spot-right, spot-in}
+use Rattle.sweep.proofs.Spots.{spot-low, to-below, to-small, spot-left, spot-right, spot-in}
 use Rattle.sweep.proofs.step.spot_at.Statement.{statement}
 use Rattle.sweep.proofs.step.spot_at.Tie as tie
 

@@ -1,10 +1,8 @@
--- `sweep::pixel::chosen_of` meets its contract. Assumes nothing.
-use Prim.Native.Nat.{min, max}
+-- `sweep::run::chosen_of` meets its contract. Assumes nothing.
 use native.Mathlib.Omega.{arith}
-use borrow.Author.Needs.{needs}
 use Rattle.sweep.specs.Span.{chosen}
-use Rattle.sweep.proofs.pixel.chosen_of.Statement.{statement}
-use Rattle.sweep.proofs.pixel.chosen_of.Tie as tie
+use Rattle.sweep.proofs.run.chosen_of.Statement.{statement}
+use Rattle.sweep.proofs.run.chosen_of.Tie as tie
 
 returns : tie.Need-returns
 unfolding chosen

@@ -1,0 +1,19 @@
+-- `sweep::walk::choose_part` meets its contract: the plan's places, counted from its first column. Assumes nothing.
+use Prim.Native.Nat.{_-_}
+use native.Mathlib.Omega.{arith}
+use borrow.Author.Needs.{needs}
+use Rattle.sweep.proofs.Running.{apart-part}
+use Rattle.sweep.proofs.walk.choose_part.Statement.{statement}
+use Rattle.sweep.proofs.walk.choose_part.Tie as tie
+
+choose-run-requires : tie.Need-choose-run-requires
+choose-run-requires c κs =
+    let start = c .before .before .before .before .before .before in
+    let plan = start .pre .0 .1 in
+    let a = start .args in (
+      (omega (arith, start .pre, plan .to-fits), omega (arith, start .pre, plan .first-fits), omega (arith, start .pre, plan .second-fits)),
+      (apart-part _ _ _ (a .from - a .p .lo) _ (plan .first-apart) (omega (arith, start .pre)), apart-part _ _ _ (a .from - a .p .lo) _ (plan .second-apart) (omega (arith, start .pre))),
+    )
+
+pub choose-part-spec : {M : Type 1} → statement M
+choose-part-spec = tie.close (tie.spec (λ c. search needs) (λ c. search needs) (λ c. search needs) (λ c. search needs) (λ c. search needs) choose-run-requires (λ c. search needs) (λ c. search needs))
