@@ -6,15 +6,7 @@
 #include <stdlib.h>
 #include <string.h>
 
-struct answer {
-    uint64_t refusal, place, work;
-};
-
-struct answer sotrugla_run(const uint8_t *ticket, size_t ticket_length, uint64_t width,
-                           uint64_t height, uint64_t source_offset, uint64_t source_stride,
-                           uint64_t output_offset, uint64_t output_stride, const uint8_t *source,
-                           size_t source_length, uint8_t *output, size_t output_length,
-                           uint8_t *scratch, size_t scratch_length);
+#include "sotrugla.h"
 
 enum { TICKET, SOURCE, OUTPUT, SCRATCH, BUFFERS };
 static const char *const names[BUFFERS] = {"ticket", "source", "output", "scratch"};
@@ -71,7 +63,7 @@ static void run(const struct job *job)
     struct lent lent[BUFFERS];
     for (int i = 0; i < BUFFERS; i++)
         lent[i] = lend(job->lengths[i]);
-    struct answer answer = sotrugla_run(
+    struct sotrugla_outcome answer = sotrugla_run(
         lent[TICKET].bytes, lent[TICKET].length, job->width, job->height, job->source_offset,
         job->source_stride, job->output_offset, job->output_stride, lent[SOURCE].bytes,
         lent[SOURCE].length, lent[OUTPUT].bytes, lent[OUTPUT].length, lent[SCRATCH].bytes,

@@ -1,6 +1,8 @@
 -- The numbers that the exported functions take and give, as the job's definitions have them.
 -- Assumes nothing.
 use Prim.Native.Nat.{ℕ}
+use mathlib.Core.Bool.{_&&_, cond}
+use Rattle.tray.specs.Placement.{sideAllowed, scratchNeeded}
 use Rattle.filter.specs.Answer.{numberOf, placeOf, workIn}
 use Rattle.filter.specs.declared.Answer.{Answer}
 use Rattle.filter.specs.declared.Placements.{Placements}
@@ -19,3 +21,7 @@ placementsOf width height from apart to between =
 -- the refusal's number, 0 for a finished page; its place; the work
 abbrev pub outcomeOf : Answer → Outcome
 outcomeOf a = record { refusal = numberOf a; place = placeOf a; work = workIn a }
+
+-- the scratch that a page of these sides needs, or 0 where a side is beyond its limits
+abbrev pub scratchFor : ℕ → ℕ → ℕ
+scratchFor width height = cond (sideAllowed width && sideAllowed height) (scratchNeeded width height) 0

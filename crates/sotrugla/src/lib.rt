@@ -1,13 +1,18 @@
 // The library as C, Rust and Python link it: the proved job on plain numbers and slices.
 // A slice is a pointer and then a length; sizes are 64-bit numbers. No function here has a condition on its callers but that of
 // every slice: its bytes are there, and no two of the buffers overlap.
+mod shown; // shown.rt: a ticket alone, as a row of numbers
+
 ghost use mathlib.Core.Path.{_≡_};
+ghost use lib.ListN.{length};
 ghost use Rattle.filter.specs.Job.{lengths, answer, outputAfter, scratchAfter};
-ghost use Rattle.sotrugla.specs.Outcome.{placementsOf, outcomeOf};
+ghost use Rattle.sotrugla.specs.Shown.{readOutcome, numbersAfter};
+ghost use Rattle.sotrugla.specs.Outcome.{placementsOf, outcomeOf, scratchFor};
 use filter::Placements;
 use filter::Spot;
 
-// A job's answer: refusal is 0 for a finished page, else the number of the refusal, 1 to 14.
+// An answer: refusal is 0 for a finished page or a ticket that was read, else the number of the refusal, 1 to 14, or 15 of
+// `sotrugla_read_ticket` alone.
 #[repr(C)]
 pub struct Outcome {
     pub refusal: u64,
@@ -73,4 +78,41 @@ pub extern "C" fn sotrugla_run(
         place: filter::report::place(given) as u64,
         work: filter::report::work(given),
     }
+}
+
+// How many bytes of scratch a page of these sides needs; 0 where a side is beyond its limits.
+#[no_mangle]
+pub extern "C" fn sotrugla_scratch_needed(width: usize, height: usize) -> usize
+    ensures { λ r. ⌜ r ≡ scratchFor width height ⌝ }
+{
+    if !tray::place::is_side(width) {
+        return 0;
+    }
+    if !tray::place::is_side(height) {
+        return 0;
+    }
+    tray::place::scratch_needed(width, height)
+}
+
+// The numbers of document 01 end at 14.
+const NUMBERS_TOO_FEW: u64 = 15;
+
+// Reads a ticket alone into a buffer of 264 numbers, which hosts take for signed ones: a negative one stands there as two's
+// complement. A refused ticket shows zeros. A buffer too short is answered 15, its place the numbers needed, and is not written.
+#[no_mangle]
+pub extern "C" fn sotrugla_read_ticket(ticket: &[u8], numbers: &mut [u64]) -> Outcome
+    ensures answered { λ r. ⌜ r ≡ readOutcome (now (ticket .entry)) (length (now (numbers .entry))) ⌝ }
+    ensures written { λ _. ⌜ now (numbers .exit) ≡ numbersAfter (now (ticket .entry)) (now (numbers .entry)) ⌝ }
+{
+    if numbers.len() < shown::NUMBERS {
+        return Outcome {
+            refusal: NUMBERS_TOO_FEW,
+            place: shown::NUMBERS as u64,
+            work: 0,
+        };
+    }
+    let reading = ticket::read(ticket);
+    let verdict = reading.verdict;
+    shown::put_ticket(reading.ticket, numbers);
+    shown::verdict_outcome(verdict)
 }

@@ -1,0 +1,39 @@
+//! The functions of include/sotrugla.h, where their promises stand.
+
+#[repr(C)]
+pub struct Outcome {
+    pub refusal: u64,
+    pub place: u64,
+    pub work: u64,
+}
+
+/// How many numbers `sotrugla_read_ticket` writes: eight, and four for each of 64 box places.
+pub const NUMBERS: usize = 8 + 4 * 64;
+
+extern "C" {
+    pub fn sotrugla_run(
+        ticket: *const u8,
+        ticket_length: usize,
+        width: usize,
+        height: usize,
+        source_offset: usize,
+        source_stride: usize,
+        output_offset: usize,
+        output_stride: usize,
+        source: *const u8,
+        source_length: usize,
+        output: *mut u8,
+        output_length: usize,
+        scratch: *mut u8,
+        scratch_length: usize,
+    ) -> Outcome;
+
+    pub fn sotrugla_scratch_needed(width: usize, height: usize) -> usize;
+
+    pub fn sotrugla_read_ticket(
+        ticket: *const u8,
+        ticket_length: usize,
+        numbers: *mut i64,
+        numbers_length: usize,
+    ) -> Outcome;
+}

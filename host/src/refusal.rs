@@ -1,0 +1,103 @@
+//! The fourteen refusals, each with a sentence for an operator.
+
+use crate::library::Outcome;
+use std::error::Error;
+use std::fmt;
+
+/// Why a job is refused; the value is the refusal's number.
+#[derive(Clone, Copy, Debug, PartialEq, Eq)]
+pub enum Refusal {
+    TicketEnds = 1,
+    WrongTag = 2,
+    WrongLength = 3,
+    Unknown = 4,
+    TooManyBoxes = 5,
+    BadVector = 6,
+    BadLength = 7,
+    BadOrigin = 8,
+    BadPhase = 9,
+    BadSides = 10,
+    SourceTooShort = 11,
+    OutputTooShort = 12,
+    ScratchTooShort = 13,
+    BadBox = 14,
+}
+
+use Refusal::*;
+
+/// In the order of their numbers, which start at 1.
+const SENTENCES: [(Refusal, &str); 14] = [
+    (TicketEnds, "the ticket ends inside a field, or before one of its first six fields"),
+    (WrongTag, "a field has another tag than the one due"),
+    (WrongLength, "a field has the wrong length"),
+    (Unknown, "the operation or the line is unknown"),
+    (TooManyBoxes, "the ticket has more than 64 hidden boxes"),
+    (BadVector, "the vector is not allowed"),
+    (BadLength, "the segment length is 0 or above 8192"),
+    (BadOrigin, "the origin is not below the segment length"),
+    (BadPhase, "the phase is not allowed"),
+    (BadSides, "a side is not 1 to 8192, or a stride is not from the width to 16384"),
+    (SourceTooShort, "the source page does not fit its tray"),
+    (OutputTooShort, "the output page does not fit its tray"),
+    (ScratchTooShort, "the scratch is too short"),
+    (BadBox, "a hidden box has a zero side or passes the page's edge"),
+];
+
+impl Refusal {
+    pub fn number(self) -> u64 {
+        self as u64
+    }
+
+    /// The refusal in a sentence for an operator.
+    pub fn sentence(self) -> &'static str {
+        SENTENCES[self as usize - 1].1
+    }
+}
+
+/// A refused job. The place is the ticket's byte where the field at fault starts (refusals 1 to 9),
+/// the number of the box from 0 (14), else 0.
+#[derive(Clone, Copy, Debug, PartialEq, Eq)]
+pub struct Refused {
+    pub refusal: Refusal,
+    pub place: u64,
+}
+
+impl fmt::Display for Refused {
+    fn fmt(&self, f: &mut fmt::Formatter) -> fmt::Result {
+        write!(
+            f,
+            "refused {} at {}: {}",
+            self.refusal.number(),
+            self.place,
+            self.refusal.sentence()
+        )?;
+        match self.refusal.number() {
+            1..=9 => write!(f, " (the field at byte {} of the ticket)", self.place),
+            14 => write!(f, " (box {}, counted from 0)", self.place),
+            _ => Ok(()),
+        }
+    }
+}
+
+impl Error for Refused {}
+
+/// The work of a finished page, or the refusal.
+pub fn judged(outcome: Outcome) -> Result<u64, Refused> {
+    match outcome.refusal {
+        0 => Ok(outcome.work),
+        number => Err(Refused { refusal: SENTENCES[number as usize - 1].0, place: outcome.place }),
+    }
+}
+
+#[cfg(test)]
+mod tests {
+    use super::*;
+
+    #[test]
+    fn sentences_stand_in_the_order_of_the_numbers() {
+        for (at, (refusal, sentence)) in SENTENCES.iter().enumerate() {
+            assert_eq!(refusal.number(), at as u64 + 1);
+            assert_eq!(refusal.sentence(), *sentence);
+        }
+    }
+}

@@ -1,0 +1,106 @@
+//! The library through the wrapper: the worked cases of an opening, and each of the fourteen refusals.
+
+use sotrugla::{filter, HiddenBox, Line, Operation, Page, Refusal, Spot, Ticket, TicketBytes};
+
+/// The row 9 1 5, opened with a segment of two steps.
+fn ticket() -> Ticket {
+    Ticket::new(Operation::Open, Line::connected(1, 0), 2)
+}
+
+const ROW: [u8; 3] = [9, 1, 5];
+
+fn hidden(left: u16, width: u16) -> HiddenBox {
+    HiddenBox { left, top: 0, width, height: 1 }
+}
+
+#[test]
+fn a_page_is_written_and_nothing_beside_it() {
+    let page = Page { offset: 2, width: 3, height: 1, stride: 5 };
+    let source = [200, 200, 9, 1, 5, 200];
+    let mut output = [7; 9];
+    let mut scratch = [8; 20];
+    let spot = Spot { offset: 4, stride: 3 };
+    let work = filter(&ticket().encode(), page, &source, spot, &mut output, &mut scratch);
+    assert_eq!(work, Ok(6));
+    assert_eq!(output, [7, 7, 7, 7, 1, 1, 5, 7, 7]);
+    assert_eq!(scratch[..15], [0; 15]);
+    assert_eq!(scratch[15..], [8; 5]);
+}
+
+#[test]
+fn a_hidden_box_is_white_and_absent() {
+    let page = Page::alone(3, 1);
+    let ticket = Ticket::new(Operation::Open, Line::connected(1, 0), 3).hide(hidden(1, 1)).encode();
+    let mut output = [0; 3];
+    assert!(filter(&ticket, page, &ROW, page.spot(), &mut output, &mut [0; 15]).is_ok());
+    assert_eq!(output, [5, 255, 5]);
+}
+
+/// The refusal of a job on the row, which must leave output and scratch as they were.
+fn refused(ticket: &TicketBytes, page: Page, lengths: [usize; 3]) -> (Refusal, u64) {
+    let mut output = vec![7; lengths[1]];
+    let mut scratch = vec![8; lengths[2]];
+    let source = &ROW[..lengths[0]];
+    let refused = filter(ticket, page, source, page.spot(), &mut output, &mut scratch).unwrap_err();
+    assert!(output.iter().all(|&b| b == 7) && scratch.iter().all(|&b| b == 8));
+    (refused.refusal, refused.place)
+}
+
+#[test]
+fn each_ticket_refusal_has_its_place() {
+    let with = |at: usize, byte: u8| {
+        let mut bytes = ticket().encode().as_bytes().to_vec();
+        bytes[at] = byte;
+        TicketBytes::from(bytes)
+    };
+    let of = |ticket: &TicketBytes| refused(ticket, Page::alone(3, 1), [3, 3, 15]);
+    let many = (0..65).fold(ticket(), |ticket, _| ticket.hide(hidden(0, 1)));
+    let line = |line| Ticket::new(Operation::Open, line, 2).encode();
+    assert_eq!(of(&vec![].into()), (Refusal::TicketEnds, 0));
+    assert_eq!(of(&with(4, 9)), (Refusal::WrongTag, 4));
+    assert_eq!(of(&with(6, 2)), (Refusal::WrongLength, 4));
+    assert_eq!(of(&with(3, 5)), (Refusal::Unknown, 0));
+    assert_eq!(of(&many.encode()), (Refusal::TooManyBoxes, 30 + 64 * 11));
+    assert_eq!(of(&line(Line::connected(2, 2))), (Refusal::BadVector, 8));
+    assert_eq!(of(&line(Line::Connected { dx: 2, dy: -1, phase: 2 })), (Refusal::BadPhase, 25));
+    assert_eq!(of(&with(19, 0)), (Refusal::BadLength, 15));
+    assert_eq!(of(&ticket().origin(2).encode()), (Refusal::BadOrigin, 20));
+}
+
+#[test]
+fn each_page_refusal_has_its_place() {
+    let good = ticket().encode();
+    let page = Page::alone(3, 1);
+    assert_eq!(refused(&good, Page { stride: 2, ..page }, [3, 3, 15]), (Refusal::BadSides, 0));
+    assert_eq!(refused(&good, page, [2, 3, 15]), (Refusal::SourceTooShort, 0));
+    assert_eq!(refused(&good, page, [3, 2, 15]), (Refusal::OutputTooShort, 0));
+    assert_eq!(refused(&good, page, [3, 3, 14]), (Refusal::ScratchTooShort, 0));
+    let past = ticket().hide(hidden(0, 3)).hide(hidden(65535, 2)).encode();
+    assert_eq!(refused(&past, page, [3, 3, 15]), (Refusal::BadBox, 1));
+}
+
+#[test]
+fn a_ticket_reads_back_as_it_was_built() {
+    let full = (0..64)
+        .fold(ticket(), |t, k| t.hide(HiddenBox { left: k, top: 1, width: 2, height: 65535 }));
+    let steep = Line::Connected { dx: -2, dy: 5, phase: 4 };
+    for ticket in [
+        full,
+        Ticket::new(Operation::Erode, Line::periodic(255, -255), 8192).origin(8191),
+        Ticket::new(Operation::Dilate, steep, 1),
+        Ticket::new(Operation::Close, Line::connected(0, 1), 300).origin(299),
+    ] {
+        assert_eq!(ticket.encode().read(), Ok(ticket));
+    }
+}
+
+#[test]
+fn a_refusal_reads_as_a_sentence_with_its_place() {
+    let page = Page::alone(3, 1);
+    let ticket = Ticket::new(Operation::Open, Line::periodic(2, 2), 8193).encode();
+    let refused = filter(&ticket, page, &ROW, page.spot(), &mut [0; 3], &mut [0; 15]).unwrap_err();
+    assert_eq!(
+        refused.to_string(),
+        "refused 7 at 15: the segment length is 0 or above 8192 (the field at byte 15 of the ticket)"
+    );
+}
