@@ -1,5 +1,6 @@
 -- Runs of bytes: one more byte, and that what is still to be read has not been written. Assumes nothing.
-use mathlib.Core.Path.{_≡_, refl, _∙_}
+use mathlib.Core.Path.{_≡_, refl, sym, subst, _∙_}
+use mathlib.Core.Bool.{Bool}
 use mathlib.Core.List.{List}
 use mathlib.Core.Logic.{inl, inr, ⊎-elim}
 use Prim.Native.Nat.{ℕ, _+_, _≤_, _<_}
@@ -7,7 +8,7 @@ use native.Mathlib.Omega.{arith}
 use borrow.Author.Count.{below-more}
 use lib.ListN.{length, getD, set, length-set}
 use lib.Seq.{getD-set-same, getD-set-other}
-use Rattle.sweep.specs.Runs.{Apart, Filled}
+use Rattle.sweep.specs.Runs.{Apart, Filled, Chosen}
 
 -- a part of a run
 pub apart-part : (to from n k m : ℕ) → Apart to from n → k + m ≤ n → Apart (to + k) (from + k) m
@@ -38,3 +39,7 @@ module _ (to k : ℕ) (value : ℕ → ℕ) (old new : List ℕ) (done : Filled 
             (λ i h. getD-set-other new (to + k) (to + i) v 0 (λ e. omega arith) ∙ done .made i h)
             (getD-set-same new (to + k) v 0 fits ∙ is);
       }
+
+-- the same run under another name
+pub chosen-at : (low : Bool) (to first second other n k : ℕ) (old new : List ℕ) → other ≡ second → Chosen low to first (second + k) n old new → Chosen low to first (other + k) n old new
+chosen-at low to first second other n k old new e made = subst (λ (q : ℕ). Chosen low to first (q + k) n old new) (sym e) made

@@ -50,3 +50,19 @@ pub fn choose_run(
     }
     count
 }
+
+// The same where the second run is the one that is written: apart from the one above, since a compiler that finds the two at one place
+// must take them byte by byte, unless it knows.
+pub fn choose_into(low: bool, bytes: &mut [u8], to: usize, first: usize, n: usize) -> usize
+    requires { ⌜ (to + n ≤ length (now bytes)) × (first + n ≤ length (now bytes)) × Apart to first n ⌝ }
+    ensures { λ r. ⌜ Chosen low to first to n (now (bytes .entry)) (now (bytes .exit)) × (r ≡ n) ⌝ }
+{
+    let mut count: usize = 0;
+    let mut k: usize = 0;
+    while k < n {
+        bytes[to + k] = chosen_of(low, bytes[first + k], bytes[to + k]);
+        count += 1;
+        k += 1;
+    }
+    count
+}

@@ -87,6 +87,9 @@ fn choose_part(g: Grid, bytes: &mut [u8], row: usize, p: Plan, from: usize, to: 
     ensures { λ r. ⌜ Chosen (g .low) (p .to + (from - p .lo)) (p .first + (from - p .lo)) (p .second + (from - p .lo)) (to - from) (now (bytes .entry)) (now (bytes .exit)) × (r ≡ to - from) ⌝ }
 {
     let at = from - p.lo;
+    if p.second == p.to {
+        return run::choose_into(g.low, bytes, p.to + at, p.first + at, to - from);
+    }
     run::choose_run(
         g.low,
         bytes,

@@ -2,13 +2,25 @@
 use Prim.Native.Nat.{_-_}
 use native.Mathlib.Omega.{arith}
 use borrow.Author.Needs.{needs}
-use Rattle.sweep.proofs.Running.{apart-part}
+use Rattle.sweep.proofs.Running.{apart-part, chosen-at}
 use Rattle.sweep.proofs.walk.choose_part.Statement.{statement}
 use Rattle.sweep.proofs.walk.choose_part.Tie as tie
 
+choose-into-requires : tie.Need-choose-into-requires
+choose-into-requires c κs =
+    let start = c .before .before .before .before .before .before .before in
+    let plan = start .pre .0 .1 in
+    let a = start .args in
+    (omega (arith, start .pre, plan .to-fits), omega (arith, start .pre, plan .first-fits), apart-part _ _ _ (a .from - a .p .lo) _ (plan .first-apart) (omega (arith, start .pre)))
+
+returns : tie.Need-returns
+returns c =
+    let made = c .before .before .choose-into .ensures in
+    (chosen-at _ _ _ _ _ _ _ _ _ (c .before .before .before .before .before .before .if1 .taken) (made .0), made .1)
+
 choose-run-requires : tie.Need-choose-run-requires
 choose-run-requires c κs =
-    let start = c .before .before .before .before .before .before in
+    let start = c .before .before .before .before .before .before .before .before in
     let plan = start .pre .0 .1 in
     let a = start .args in (
       (omega (arith, start .pre, plan .to-fits), omega (arith, start .pre, plan .first-fits), omega (arith, start .pre, plan .second-fits)),
@@ -16,4 +28,20 @@ choose-run-requires c κs =
     )
 
 pub choose-part-spec : {M : Type 1} → statement M
-choose-part-spec = tie.close (tie.spec (λ c. search needs) (λ c. search needs) (λ c. search needs) (λ c. search needs) (λ c. search needs) choose-run-requires (λ c. search needs) (λ c. search needs))
+choose-part-spec =
+    tie.close
+    (tie.spec
+    (λ c. search needs)
+    (λ c. search needs)
+    (λ c. search needs)
+    (λ c. search needs)
+    choose-into-requires
+    (λ c. search needs)
+    returns
+    (λ c. search needs)
+    (λ c. search needs)
+    (λ c. search needs)
+    (λ c. search needs)
+    choose-run-requires
+    (λ c. search needs)
+    (λ c. search needs))
