@@ -1,4 +1,7 @@
 -- `sweep::plans::backward_plan` meets its contract: its places are in the pages. Assumes nothing.
+use mathlib.Core.Path.{refl, ap}
+use Prim.Native.Nat.{ℕ, _+_, _*_}
+use native.Mathlib.Numerals.{add-one}
 use native.Mathlib.Omega.{arith}
 use borrow.Author.Needs.{needs}
 use Rattle.sweep.proofs.Bounds.{product}
@@ -30,5 +33,18 @@ add-t12 c =
     let at = c .before .before .before .before .before .pre .0 in
     record { fits = omega (arith, here _ _ _ _ _ at .step-below, at .sized .height-most) }
 
+returns : tie.Need-returns
+returns c =
+    let g = c .before .before .before .before .before .args .g in
+    record {
+      lo-is = refl;
+      hi-is = refl;
+      to-is = refl;
+      copy-is = refl;
+      first-is = refl;
+      second-is = ap (λ (q : ℕ). g .height * g .width + q) (c .place-on .ensures);
+      top-is = add-one _;
+    }
+
 pub backward-plan-spec : {M : Type 1} → statement M
-backward-plan-spec = tie.close (tie.spec mul-size mul-own (λ c κs. search needs) add-t10 add-t11 add-t12 (λ c. search needs))
+backward-plan-spec = tie.close (tie.spec mul-size mul-own (λ c κs. search needs) add-t10 add-t11 add-t12 returns)

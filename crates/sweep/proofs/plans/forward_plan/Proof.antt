@@ -1,4 +1,5 @@
 -- `sweep::plans::forward_plan` meets its contract: its places are in the pages, as the row before is. Assumes nothing.
+use mathlib.Core.Path.{refl}
 use Prim.Native.Nat.{_-_}
 use native.Mathlib.Omega.{arith}
 use borrow.Author.Needs.{needs}
@@ -24,5 +25,17 @@ mul-t10 c =
     let start = c .before .before .before .before in
     record { fits = omega (arith, place-near _ _ _ _ _ (start .pre .0) (start .args .row - start .args .g .period) (omega arith)) }
 
+returns : tie.Need-returns
+returns c =
+    record {
+      lo-is = c .before .edge .ensures;
+      hi-is = refl;
+      to-is = refl;
+      copy-is = refl;
+      first-is = refl;
+      second-is = refl;
+      top-is = refl;
+    }
+
 pub forward-plan-spec : {M : Type 1} → statement M
-forward-plan-spec = tie.close (tie.spec (λ c κs. search needs) mul-to add-to sub-t9 mul-t10 (λ c. search needs))
+forward-plan-spec = tie.close (tie.spec (λ c κs. search needs) mul-to add-to sub-t9 mul-t10 returns)

@@ -1,6 +1,7 @@
 -- `sweep::plans::result_plan` meets its contract: its places are in the pages, as the row of the window's first pixel is.
 -- Assumes nothing.
-use Prim.Native.Nat.{_*_, _-_}
+use mathlib.Core.Path.{refl, ap}
+use Prim.Native.Nat.{ℕ, _+_, _*_, _-_}
 use native.Mathlib.Omega.{arith}
 use borrow.Author.Needs.{needs}
 use Rattle.sweep.proofs.Bounds.{product}
@@ -49,6 +50,21 @@ add-t13 c =
     let pre = c .before .before .before .before .before .pre in
     record { fits = omega (arith, c .place-on .ensures, place-on-near _ _ _ _ _ (pre .0 .0) _ (pre .0 .1), pre .1 .1, pre .0 .0 .sized .width-most) }
 
+sub-t15 : tie.Need-sub-t15
+sub-t15 c = omega (arith, c .before .before .before .before .before .before .pre .1 .0)
+
+returns : tie.Need-returns
+returns c =
+    record {
+      lo-is = refl;
+      hi-is = refl;
+      to-is = refl;
+      copy-is = refl;
+      first-is = refl;
+      second-is = ap (λ (q : ℕ). q + c .before .before .before .before .before .before .args .lo) (c .before .place-on .ensures);
+      top-is = refl;
+    }
+
 pub result-plan-spec : {M : Type 1} → statement M
 result-plan-spec =
     tie.close
@@ -62,5 +78,5 @@ result-plan-spec =
     mul-t12
     add-t14
     add-t13
-    (λ c. search needs)
-    (λ c. search needs))
+    sub-t15
+    returns)
