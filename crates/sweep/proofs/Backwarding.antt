@@ -40,10 +40,8 @@ module _ (g : Grid) (profile reaches : List ℕ) (R t : ℕ) (at : Row g profile
           ordered = omega (arith, plan .lo-is);
           columns = omega (arith, plan .hi-is);
           to-fits = omega (arith, plan .lo-is, plan .hi-is, plan .to-is);
-          copy-fits = omega (arith, plan .lo-is, plan .hi-is, plan .copy-is);
           first-fits = omega (arith, plan .lo-is, plan .hi-is, plan .first-is);
           second-fits = omega (arith, plan .lo-is, plan .hi-is, plan .second-is);
-          copy-apart = inr (omega (arith, plan .lo-is, plan .hi-is, plan .to-is, plan .copy-is));
           first-apart = inr (omega (arith, plan .lo-is, plan .hi-is, plan .to-is, plan .first-is));
           second-apart = inl (omega (arith, plan .to-is, plan .second-is, far-on g profile reaches R t at 1));
           entered = λ y l h. omega (arith, plan .top-is, entry-own g profile reaches R t at y (omega (arith, plan .hi-is)));
@@ -60,9 +58,9 @@ module _ (g : Grid) (profile reaches : List ℕ) (R t : ℕ) (at : Row g profile
       own-place : (place : ℕ) → place ≡ R * g .width → place + (y - p .lo) ≡ R * g .width + y
       own-place place is = omega (arith, plan .lo-is)
 
-      lane : inBlock g R p y ≡ 0 → Free Backward g R old (getD old (p .copy + (y - p .lo)) 0) y
+      lane : inBlock g R p y ≡ 0 → Free Backward g R old (getD old (p .first + (y - p .lo)) 0) y
       lane e =
-          subst (λ (i : ℕ). Free Backward g R old (getD old i 0) y) (sym (own-place (p .copy) (plan .copy-is)))
+          subst (λ (i : ℕ). Free Backward g R old (getD old i 0) y) (sym (own-place (p .first) (plan .first-is)))
           (last-value y column (inl (sym (in-number y column) ∙ e)))
 
       run : 0 < inBlock g R p y → Charged Backward g R old (chosen (g .low) (getD old (p .first + (y - p .lo)) 0) (getD old (p .second + (y - p .lo)) 0)) y

@@ -7,7 +7,7 @@ use native.Mathlib.Nat.{mul-le-mul-right, suc-mul, zero-add, mod-eq-of-lt, one-m
 use native.Mathlib.Omega.{arith}
 use lib.ListN.{getD}
 use Rattle.geometry.specs.Laws.{period-forward}
-use Rattle.sweep.specs.Span.{chosen}
+use Rattle.sweep.specs.Span.{chosen, chosen-comm}
 use Rattle.sweep.specs.Grid.{startRow, lineName, number, spot}
 use Rattle.sweep.specs.Sweeps.{Ready, PartDone, RowSwept, target, newAt, costAt}
 use Rattle.sweep.specs.Runs.{Row, inBlock, Planned, Walked, ForwardPlan}
@@ -55,12 +55,10 @@ module _ (g : Grid) (profile reaches : List ℕ) (R t : ℕ) (at : Row g profile
           ordered = omega (arith, plan .hi-is);
           columns = omega (arith, plan .hi-is);
           to-fits = omega (arith, plan .hi-is, plan .to-is);
-          copy-fits = omega (arith, plan .hi-is, plan .copy-is);
-          first-fits = omega (arith, plan .hi-is, plan .first-is, one-row, suc-mul (R - g .period) (g .width));
-          second-fits = omega (arith, plan .hi-is, plan .second-is);
-          copy-apart = inl (omega (arith, plan .to-is, plan .copy-is));
-          first-apart = inr (omega (arith, plan .hi-is, plan .to-is, plan .first-is, one-row, suc-mul (R - g .period) (g .width)));
-          second-apart = inl (omega (arith, plan .to-is, plan .second-is));
+          first-fits = omega (arith, plan .hi-is, plan .first-is);
+          second-fits = omega (arith, plan .hi-is, plan .second-is, one-row, suc-mul (R - g .period) (g .width));
+          first-apart = inl (omega (arith, plan .to-is, plan .first-is));
+          second-apart = inr (omega (arith, plan .hi-is, plan .to-is, plan .second-is, one-row, suc-mul (R - g .period) (g .width)));
           entered = λ y l h. omega (arith, plan .top-is, entry-own g profile reaches R t at y (omega (arith, plan .hi-is)));
         }
 
@@ -72,9 +70,9 @@ module _ (g : Grid) (profile reaches : List ℕ) (R t : ℕ) (at : Row g profile
       own-place : (place : ℕ) → place ≡ R * g .width + p .lo → place + (y - p .lo) ≡ R * g .width + y
       own-place place is = omega arith
 
-      lane : inBlock g R p y ≡ 0 → Free Forward g R old (getD old (p .copy + (y - p .lo)) 0) y
+      lane : inBlock g R p y ≡ 0 → Free Forward g R old (getD old (p .first + (y - p .lo)) 0) y
       lane e =
-          subst (λ (i : ℕ). Free Forward g R old (getD old i 0) y) (sym (own-place (p .copy) (plan .copy-is)))
+          subst (λ (i : ℕ). Free Forward g R old (getD old i 0) y) (sym (own-place (p .first) (plan .first-is)))
           (kept-value y column (sym (in-number y column) ∙ e))
 
       run : 0 < inBlock g R p y → Charged Forward g R old (chosen (g .low) (getD old (p .first + (y - p .lo)) 0) (getD old (p .second + (y - p .lo)) 0)) y
@@ -85,12 +83,13 @@ module _ (g : Grid) (profile reaches : List ℕ) (R t : ℕ) (at : Row g profile
           let there = before g profile reaches R t y here going in
           let lost = plan .lo-is .exact (omega arith) in
           let one : 1 * g .period ≡ g .period = one-mul (g .period) in
-          let place : p .first + (y - p .lo) ≡ spot g (startRow g R) (lineName g R y) (t - 1) =
-          ap (λ (q : ℕ). q + (y - p .lo)) (plan .first-is ∙ ap (λ (q : ℕ). (R - q) * g .width) (sym one)) ∙ spot-behind g profile reaches R t at y column 1 (p .lo) later lost inside there in (
+          let place : p .second + (y - p .lo) ≡ spot g (startRow g R) (lineName g R y) (t - 1) =
+          ap (λ (q : ℕ). q + (y - p .lo)) (plan .second-is ∙ ap (λ (q : ℕ). (R - q) * g .width) (sym one)) ∙ spot-behind g profile reaches R t at y column 1 (p .lo) later lost inside there in (
             λ f ready.
                 ap₂ (chosen (g .low))
+                (ap (λ (i : ℕ). getD old i 0) (own-place (p .first) (plan .first-is)) ∙ ready .0)
                 (ap (λ (i : ℕ). getD old i 0) place ∙ read-A g profile reaches R t y here old _ 0 R (t - 1) there zero-le (row-earlier g profile reaches R t y here (t - 1) (omega arith)) (ready .1))
-                (ap (λ (i : ℕ). getD old i 0) (own-place (p .second) (plan .second-is)) ∙ ready .0)
+                ∙ chosen-comm (g .low) (f R y) _
                 ∙ ahead-next g profile reaches R t y here going f,
             ahead-next-cost g profile reaches R t y here going,
           )

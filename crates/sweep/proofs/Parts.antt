@@ -63,7 +63,7 @@ module _ (sweep : Sweep) (g : Grid) (R : ℕ) (old : List ℕ) where
 
   -- columns that a plan makes
   pub walked-part : (p : Plan) (new : List ℕ) (count : ℕ) → p .lo ≤ p .hi → p .to ≡ base + p .lo → Walked g R p (p .hi) old new count
-      → ((y : ℕ) → p .lo ≤ y → y < p .hi → inBlock g R p y ≡ 0 → Free (getD old (p .copy + (y - p .lo)) 0) y)
+      → ((y : ℕ) → p .lo ≤ y → y < p .hi → inBlock g R p y ≡ 0 → Free (getD old (p .first + (y - p .lo)) 0) y)
       → ((y : ℕ) → p .lo ≤ y → y < p .hi → 0 < inBlock g R p y → Charged (chosen (g .low) (getD old (p .first + (y - p .lo)) 0) (getD old (p .second + (y - p .lo)) 0)) y)
       → PartDone sweep g R (p .lo) (p .hi) old new count
   walked-part p new count h is walked lanes runs =
@@ -78,8 +78,8 @@ module _ (sweep : Sweep) (g : Grid) (R : ℕ) (old : List ℕ) where
             let place : base + y ≡ p .to + (y - p .lo) = omega arith in
             ap (λ (i : ℕ). getD new i 0) place
             ∙ by-cases (decLt 0 (inBlock g R p y))
-            (λ some. walked .run y l k some ∙ runs y l k some .0 f (ready y l k))
-            (λ none. walked .lane y l k (omega arith) ∙ lanes y l k (omega arith) .0 f (ready y l k));
+            (λ some. walked .goes-on y l k some ∙ runs y l k some .0 f (ready y l k))
+            (λ none. walked .begins y l k (omega arith) ∙ lanes y l k (omega arith) .0 f (ready y l k));
         counted = walked .counted ∙ total-alike _ (costAt sweep g R) (p .lo) (p .hi - p .lo) (λ y l k. cost y l (omega arith));
       }
     where

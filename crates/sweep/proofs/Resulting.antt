@@ -63,10 +63,8 @@ module _ (g : Grid) (profile reaches : List ℕ) (R t : ℕ) (at : Row g profile
           ordered = omega (arith, plan .lo-is, plan .hi-is);
           columns = omega (arith, plan .hi-is);
           to-fits = omega (arith, plan .lo-is, plan .hi-is, plan .to-is);
-          copy-fits = omega (arith, plan .lo-is, plan .hi-is, plan .copy-is);
           first-fits = omega (arith, plan .lo-is, plan .hi-is, plan .first-is);
           second-fits = omega (arith, plan .lo-is, plan .hi-is, plan .second-is);
-          copy-apart = inl (omega (arith, plan .to-is, plan .copy-is));
           first-apart = inl (omega (arith, plan .to-is, plan .first-is));
           second-apart = inl (omega (arith, plan .to-is, plan .second-is, far-on g profile reaches R t at (g .on)));
           entered = λ y l h. omega (arith, plan .top-is, entered-by y (omega (arith, plan .lo-is)) (omega (arith, plan .hi-is)));
@@ -92,13 +90,13 @@ module _ (g : Grid) (profile reaches : List ℕ) (R t : ℕ) (at : Row g profile
           let sum : place + (y - p .lo) ≡ size g + ((R - g .back * g .period) * g .width + (y - lo)) = omega (arith, plan .lo-is) in
           sum ∙ ap (λ (q : ℕ). size g + q) (spot-behind g profile reaches R t at y column (g .back) lo back-most lost l there)
 
-      lane : inBlock g R p y ≡ 0 → Free Result g R old (getD old (p .copy + (y - p .lo)) 0) y
+      lane : inBlock g R p y ≡ 0 → Free Result g R old (getD old (p .first + (y - p .lo)) 0) y
       unfolding Ready newAt costAt
       lane e =
           let here = pixel g profile reaches R t at y column in
           let first : (number g R y - g .back) % g .length ≡ 0 = sym in-number ∙ e in (
             λ f ready.
-                ap (λ (i : ℕ). getD old i 0) (behind (p .copy) (plan .copy-is))
+                ap (λ (i : ℕ). getD old i 0) (behind (p .first) (plan .first-is))
                 ∙ read-B g profile reaches R t y here old _ 0 (g .height) (t - g .back) there zero-le (row-fits g (at .sized) _ _ _ (small g profile reaches R t y here) there) (ready .2)
                 ∙ made-whole g profile reaches R t y here reached f first .0,
             made-whole g profile reaches R t y here reached (λ R x. 0) first .1,

@@ -78,6 +78,19 @@ total-same cost v k (suc n) same =
     let rest : total cost (suc k) n ≡ n * v = total-same cost v (suc k) n (λ i lo hi. same i (omega arith) (omega arith)) in
     omega (arith, suc-mul n v)
 
+-- two sums of the same numbers, from two places
+pub total-shift : (cost cost′ : ℕ → ℕ) (i j n : ℕ) → ((k : ℕ) → k < n → cost (i + k) ≡ cost′ (j + k)) → total cost i n ≡ total cost′ j n
+unfolding total
+total-shift cost cost′ i j zero same = refl
+total-shift cost cost′ i j (suc n) same =
+    let at : cost i ≡ cost′ j = ap cost (sym (add-zero i)) ∙ same 0 (omega arith) ∙ ap cost′ (add-zero j) in
+    let rest : total cost (suc i) n ≡ total cost′ (suc j) n =
+    total-shift cost cost′ (suc i) (suc j) n (λ k h.
+    let one : suc i + k ≡ i + suc k = omega arith in
+    let two : j + suc k ≡ suc j + k = omega arith in
+    ap cost one ∙ same (suc k) (omega arith) ∙ ap cost′ two) in
+    omega arith
+
 -- a sum looks only at its own numbers
 pub total-alike : (cost cost′ : ℕ → ℕ) (k n : ℕ) → ((i : ℕ) → k ≤ i → i < k + n → cost i ≡ cost′ i) → total cost k n ≡ total cost′ k n
 unfolding total

@@ -1,14 +1,17 @@
 -- Runs of bytes: one more byte, and that what is still to be read has not been written. Assumes nothing.
-use mathlib.Core.Path.{_≡_, refl, sym, subst, _∙_}
-use mathlib.Core.Bool.{Bool}
+use mathlib.Core.Path.{_≡_, refl, ap, _∙_}
+use mathlib.Core.Bool.{Bool, cond}
 use mathlib.Core.List.{List}
 use mathlib.Core.Logic.{inl, inr, ⊎-elim}
 use Prim.Native.Nat.{ℕ, _+_, _≤_, _<_}
+use native.Mathlib.Nat.{zero-add}
 use native.Mathlib.Omega.{arith}
 use borrow.Author.Count.{below-more}
 use lib.ListN.{length, getD, set, length-set}
 use lib.Seq.{getD-set-same, getD-set-other}
-use Rattle.sweep.specs.Runs.{Apart, Filled, Chosen}
+use Rattle.sweep.specs.Sweeps.{Kept, total}
+use Rattle.sweep.specs.Runs.{Apart, Filled, comparedOf}
+use Rattle.sweep.proofs.Rowing.{total-more, total-most, cond-most}
 
 -- a part of a run
 pub apart-part : (to from n k m : ℕ) → Apart to from n → k + m ≤ n → Apart (to + k) (from + k) m
@@ -41,5 +44,17 @@ module _ (to k : ℕ) (value : ℕ → ℕ) (old new : List ℕ) (done : Filled 
       }
 
 -- the same run under another name
-pub chosen-at : (low : Bool) (to first second other n k : ℕ) (old new : List ℕ) → other ≡ second → Chosen low to first (second + k) n old new → Chosen low to first (other + k) n old new
-chosen-at low to first second other n k old new e made = subst (λ (q : ℕ). Chosen low to first (q + k) n old new) (sym e) made
+pub filled-as : (to n : ℕ) (value value′ : ℕ → ℕ) (old new : List ℕ) → ((k : ℕ) → k < n → value k ≡ value′ k) → Filled to n value old new → Filled to n value′ old new
+filled-as to n value value′ old new same filled = record { kept = filled .kept; made = λ k h. filled .made k h ∙ same k h }
+
+-- a run that stands where it is written
+pub filled-own : (to n : ℕ) (value : ℕ → ℕ) (old : List ℕ) → ((k : ℕ) → k < n → getD old (to + k) 0 ≡ value k) → Filled to n value old old
+filled-own to n value old same = record { kept = record { same-length = refl; below = λ k h. refl; above = λ k h. refl }; made = same }
+
+-- ---- comparisons counted where a byte is not kept
+
+pub compared-more : (keeps : ℕ → Bool) (k count more : ℕ) → count ≡ total (comparedOf keeps) 0 k → more ≡ cond (keeps k) 0 1 → count + more ≡ total (comparedOf keeps) 0 (k + 1)
+compared-more keeps k count more so-far one = omega (arith, total-more (comparedOf keeps) 0 k, ap (comparedOf keeps) (zero-add k))
+
+pub compared-few : (keeps : ℕ → Bool) (k : ℕ) → total (comparedOf keeps) 0 k ≤ k
+compared-few keeps k = total-most (comparedOf keeps) (λ i. cond-most (keeps i)) 0 k

@@ -1,26 +1,28 @@
--- How a row is cut into lanes and runs, and that a plan is carried out part by part. Assumes nothing.
+-- When the lines of a row entered and which of its pixels begin a block, and that a plan is carried out part by part. Assumes nothing.
 use mathlib.Core.Path.{_≡_, refl, sym, ap, ap₂, _∙_}
-use mathlib.Core.Bool.{Bool, cond}
+use mathlib.Core.Bool.{Bool, true, false, cond}
 use mathlib.Core.List.{List}
 use mathlib.Core.Logic.{⊎-elim, by-cases}
-use Prim.Native.Nat.{ℕ, _+_, _-_, _*_, _/_, _%_, _≤_, _<_, min, max}
-use native.Mathlib.Nat.{mod-lt, mod-le, mod-eq-of-lt, add-mod-right, div-add-mod, add-mul-mod-self-left, mul-one, mul-zero}
+use Prim.Native.Nat.{ℕ, _+_, _-_, _*_, _%_, _≤_, _<_, min}
+use native.Mathlib.Nat.{mod-lt, mod-eq-of-lt, mod-add-mod, add-mod-right, add-comm, zero-add, mul-zero, mul-one, mul-le-mul-left}
 use native.Mathlib.Decide.{decLt}
 use native.Mathlib.Omega.{arith}
 use lib.Dec.{eqb}
-use lib.ListN.{length, getD}
+use lib.ListN.{getD}
 use borrow.Author.Tests.{eq-eqb, ne-eqb}
-use Rattle.geometry.specs.Drift.{drift}
+use Rattle.geometry.specs.Drift.{drift, reach}
 use Rattle.geometry.specs.Laws.{drift-rises}
-use Rattle.sweep.specs.Span.{chosen}
 use Rattle.sweep.specs.Grid.{lineName, entry}
 use Rattle.sweep.specs.GridLaws.{entry-at, entry-by}
 use Rattle.sweep.specs.Sweeps.{Kept, total}
-use Rattle.sweep.specs.Runs.{Apart, Filled, Copied, Chosen, Row, entryAt, EdgeAt, inBlock, Planned, Walked}
+use Rattle.sweep.specs.Span.{chosen}
+use Rattle.sweep.specs.Runs.{Apart, Filled, Copied, Chosen, keptOr, comparedOf, TopMade, Row, entryAt, EdgeAt, Marked, inBlock, Planned, Walked}
 use Rattle.sweep.specs.declared.Grid.{Grid}
 use Rattle.sweep.specs.declared.Plan.{Plan}
-use Rattle.sweep.proofs.Planning.{here, name}
-use Rattle.sweep.proofs.Rowing.{total-join, total-same, total-most, cond-most}
+use Rattle.sweep.proofs.Bounds.{entry-zero, entry-reach}
+use Rattle.sweep.proofs.Planning.{pixel, here, name}
+use Rattle.sweep.proofs.Rowing.{total-join, total-same, total-shift, total-most, cond-most}
+use Rattle.sweep.proofs.Running.{filled-as}
 
 -- ---- when the lines of a row entered
 
@@ -42,22 +44,6 @@ module _ (g : Grid) (profile reaches : List ℕ) (R t : ℕ) (at : Row g profile
   pub entry-own : (x : ℕ) → x < g .width → entryAt g R x ≤ t
   entry-own x h = entry-early x t h (omega arith)
 
-  -- further right, earlier
-  pub entry-falls : (x y : ℕ) → x ≤ y → y < g .width → entryAt g R y ≤ entryAt g R x
-  entry-falls x y on h =
-      by-cases (decLt (entryAt g R x) (entryAt g R y))
-      (λ k.
-      let low : entryAt g R x < g .height = omega (arith, entry-own x (omega arith), step-below) in
-      let there : drift (g .line) t ≤ x + drift (g .line) (entryAt g R x) = reached x (omega arith) low in
-      absurd (omega (arith, entry-early y (entryAt g R x) h (omega arith))))
-      (λ k. omega arith)
-    where
-      reached : (x : ℕ) → x < g .width → entryAt g R x < g .height → drift (g .line) t ≤ x + drift (g .line) (entryAt g R x)
-      reached x h low =
-          by-cases (decLt (x + drift (g .line) (entryAt g R x)) (drift (g .line) t))
-          (λ k. absurd (omega (arith, entry-late x (entryAt g R x) h low k)))
-          (λ k. omega arith)
-
   -- ---- edges
 
   pub edge-none : (e less hi : ℕ) → e < less → EdgeAt g R t e less hi hi
@@ -75,90 +61,59 @@ module _ (g : Grid) (profile reaches : List ℕ) (R t : ℕ) (at : Row g profile
         exact = λ before. omega arith;
       }
 
--- ---- numbers
+-- ---- which pixels begin a block
 
--- a few steps past a block's first
-mod-past : (L m j : ℕ) → m % L ≡ 0 → j < L → (m + j) % L ≡ j
-mod-past L m j whole h =
-    let cut : m + j ≡ j + L * (m / L) = omega (arith, div-add-mod m L) in
-    ap (λ (q : ℕ). q % L) cut ∙ add-mul-mod-self-left j L (m / L) ∙ mod-eq-of-lt h
+-- two steps are as far into their blocks if the distance between them is whole blocks
+eqb-mod : (L e T : ℕ) → 0 < L → e ≤ T → eqb (e % L) (T % L) ≡ eqb ((T - e) % L) 0
+eqb-mod L e T long h =
+    by-cases (decLt 0 ((T - e) % L))
+    (λ some. ne-eqb (e % L) (T % L) (λ same. absurd (differs some same)) ∙ sym (ne-eqb ((T - e) % L) 0 (λ none. omega arith)))
+    (λ none.
+    let whole : (T - e) % L ≡ 0 = omega arith in
+    eq-eqb (e % L) (T % L) (sym (sum ∙ ap (λ (q : ℕ). (q + e % L) % L) whole ∙ ap (λ (q : ℕ). q % L) (zero-add (e % L)) ∙ mod-eq-of-lt (mod-lt e long))) ∙ sym (eq-eqb ((T - e) % L) 0 whole))
+  where
+    -- the remainder of a sum
+    sum : T % L ≡ ((T - e) % L + e % L) % L
+    sum =
+        let cut : T ≡ e + (T - e) = omega arith in
+        ap (λ (q : ℕ). q % L) cut ∙ sym (mod-add-mod e L (T - e)) ∙ ap (λ (q : ℕ). q % L) (add-comm (e % L) (T - e)) ∙ sym (mod-add-mod (T - e) L (e % L))
 
--- whole blocks further
-mod-on : (L m n : ℕ) → m % L ≡ 0 → (m + (n - n % L)) % L ≡ 0
-mod-on L m n whole =
-    let cut : n - n % L ≡ L * (n / L) = omega (arith, div-add-mod n L) in
-    ap (λ (q : ℕ). (m + q) % L) cut ∙ add-mul-mod-self-left m L (n / L) ∙ whole
-
--- ---- one block of a row
-
--- step e begins a block, counted from the plan's top, and no line from column x on entered after it
-pub record Blocks (g : Grid) (R : ℕ) (p : Plan) (x e : ℕ) : Type 0 where
-  pub most : e ≤ p .top
-  pub cut : (p .top - e) % g .length ≡ 0
-  pub entered : (y : ℕ) → x ≤ y → y < p .hi → entryAt g R y ≤ e
+    differs : 0 < (T - e) % L → e % L ≡ T % L → ⊥
+    differs some same =
+        by-cases (decLt ((T - e) % L + e % L) L)
+        (λ below. omega (arith, sum, mod-eq-of-lt below))
+        (λ past.
+        let rest : ℕ = (T - e) % L + e % L - L in
+        let low : rest < L = omega (arith, mod-lt (T - e) long, mod-lt e long) in
+        let is : (T - e) % L + e % L ≡ rest + L = omega arith in
+        let back : ((T - e) % L + e % L) % L ≡ rest = ap (λ (q : ℕ). q % L) is ∙ add-mod-right rest L ∙ mod-eq-of-lt low in
+        omega (arith, sum, mod-lt (T - e) long))
 
 module _ (g : Grid) (profile reaches : List ℕ) (R t : ℕ) (at : Row g profile reaches R t) (p : Plan) (planned : Planned g R p) where
-  pub long : 0 < g .length
+  long : 0 < g .length
   long = omega (arith, at .sized .length-is)
 
-  pub blocks-first : Blocks g R p (p .lo) (p .top)
-  blocks-first =
-      let none : p .top - p .top ≡ 0 = omega arith in
-      record { most = omega arith; cut = ap (λ (q : ℕ). q % g .length) none ∙ mod-eq-of-lt long; entered = planned .entered }
+  inside : (y : ℕ) → p .lo ≤ y → y < p .hi → eqb (entryAt g R y % g .length) (p .top % g .length) ≡ eqb (inBlock g R p y) 0
+  unfolding inBlock
+  inside y l h = eqb-mod (g .length) (entryAt g R y) (p .top) long (planned .entered y l h)
 
-  module _ (x e : ℕ) (from : p .lo ≤ x) (below : x < p .hi) (blocks : Blocks g R p x e) (b : ℕ) (is : b ≡ entryAt g R x + (e - entryAt g R x) % g .length) where
-    entered-here : entryAt g R x ≤ e
-    entered-here = blocks .entered x (omega arith) below
+  -- where its line entered from the side, a pixel's mark says it
+  pub side-keeps : (marks : List ℕ) (y place : ℕ) → Marked g marks → p .lo ≤ y → y < p .hi → y < drift (g .line) t → place ≡ y + g .height - drift (g .line) t
+      → eqb (getD marks place 0) (p .top % g .length) ≡ eqb (inBlock g R p y) 0
+  unfolding entryAt
+  side-keeps marks y place marked l h side is =
+      let low = here g profile reaches R t at .drift-below in
+      let v : ℕ = drift (g .line) t - y in
+      let read : getD marks place 0 ≡ reach (g .line) v (g .height) % g .length = ap (λ (i : ℕ). getD marks i 0) (omega arith) ∙ marked .mark-is v (omega arith) (omega arith) in
+      let entered : reach (g .line) v (g .height) ≡ entryAt g R y = sym (at .tabled .reaches-is v (omega arith)) ∙ entry-reach g profile reaches R t y (pixel g profile reaches R t at y (omega (arith, planned .columns))) side in
+      ap (λ (q : ℕ). eqb q (p .top % g .length)) (read ∙ ap (λ (q : ℕ). q % g .length) entered) ∙ inside y l h
 
-    pub block-most : b ≤ p .top
-    block-most = omega (arith, blocks .most, entered-here, mod-le (e - entryAt g R x) (g .length))
-
-    block-near : b < entryAt g R x + g .length
-    block-near = omega (arith, mod-lt (e - entryAt g R x) long)
-
-    block-cut : (p .top - b) % g .length ≡ 0
-    block-cut =
-        let n : ℕ = e - entryAt g R x in
-        let whole : p .top - b ≡ p .top - e + (n - n % g .length) = omega (arith, blocks .most, entered-here, mod-le n (g .length)) in
-        ap (λ (q : ℕ). q % g .length) whole ∙ mod-on (g .length) (p .top - e) n (blocks .cut)
-
-    module _ (one lane end : ℕ) (first : EdgeAt g R t b 1 (p .hi) one) (lane-is : lane ≡ max x one) (last : EdgeAt g R t b (g .length) (p .hi) end) where
-      pub end-on : x < end
-      end-on = by-cases (decLt x end) (λ k. k) (λ k. absurd (omega (arith, last .right x (omega arith) below, block-near)))
-
-      pub lane-most : lane ≤ end
-      lane-most =
-          by-cases (decLt end one)
-          (λ k. absurd (omega (arith, first .left end k, last .right end (omega arith) (omega (arith, first .most)), long)))
-          (λ k. omega (arith, end-on))
-
-      pub in-lane : (y : ℕ) → x ≤ y → y < lane → inBlock g R p y ≡ 0
-      unfolding inBlock
-      in-lane y on h =
-          let inside : y < one = omega arith in
-          let late : b < entryAt g R y + 1 = first .left y inside in
-          let falls : entryAt g R y ≤ entryAt g R x = entry-falls g profile reaches R t at x y on (omega (arith, first .most, planned .columns)) in
-          let same : entryAt g R y ≡ b = omega arith in
-          ap (λ (q : ℕ). (p .top - q) % g .length) same ∙ block-cut
-
-      pub in-run : (y : ℕ) → lane ≤ y → y < end → 0 < inBlock g R p y
-      unfolding inBlock
-      in-run y on h =
-          let early : entryAt g R y + 1 ≤ b = first .right y (omega arith) (omega (arith, last .most)) in
-          let late : b < entryAt g R y + g .length = last .left y h in
-          let sum : p .top - entryAt g R y ≡ p .top - b + (b - entryAt g R y) = omega (arith, block-most) in
-          let rest : (p .top - entryAt g R y) % g .length ≡ b - entryAt g R y = ap (λ (q : ℕ). q % g .length) sum ∙ mod-past (g .length) (p .top - b) (b - entryAt g R y) block-cut (omega arith) in
-          omega arith
-
-      pub blocks-next : end < p .hi → Blocks g R p end (b - g .length)
-      blocks-next h =
-          let far : entryAt g R end + g .length ≤ b = last .right end (omega arith) h in
-          let sum : p .top - (b - g .length) ≡ p .top - b + g .length = omega (arith, block-most) in
-          record {
-            most = omega (arith, block-most);
-            cut = ap (λ (q : ℕ). q % g .length) sum ∙ add-mod-right (p .top - b) (g .length) ∙ block-cut;
-            entered = λ y on k. let early = last .right y on k in omega arith;
-          }
+  -- where it entered in the first row, all are alike
+  pub top-keeps : (y : ℕ) → p .lo ≤ y → y < p .hi → drift (g .line) t ≤ y → eqb (p .top % g .length) 0 ≡ eqb (inBlock g R p y) 0
+  unfolding inBlock entryAt
+  top-keeps y l h reached =
+      let none : 0 ≡ entryAt g R y = entry-zero g profile reaches R t y (pixel g profile reaches R t at y (omega (arith, planned .columns))) reached in
+      ap (λ (q : ℕ). eqb (q % g .length) 0) (omega arith)
 
 -- ---- a plan carried out, part by part
 
@@ -171,8 +126,8 @@ module _ (g : Grid) (R : ℕ) (p : Plan) (old : List ℕ) where
   walked-none =
       record {
         kept = record { same-length = refl; below = λ k h. refl; above = λ k h. refl };
-        lane = λ y lo hi. absurd (omega arith);
-        run = λ y lo hi. absurd (omega arith);
+        begins = λ y lo hi. absurd (omega arith);
+        goes-on = λ y lo hi. absurd (omega arith);
         counted = none;
       }
     where
@@ -185,66 +140,92 @@ module _ (g : Grid) (R : ℕ) (p : Plan) (old : List ℕ) where
 
   module _ (now new : List ℕ) (x end count : ℕ) (from : p .lo ≤ x) (on : x ≤ end) (most : end ≤ p .hi) (planned : Planned g R p) (walked : Walked g R p x old now count) where
     -- what the plan reads at a column that is still to come is as it was
-    unwritten : (place y : ℕ) → Apart (p .to) place (p .hi - p .lo) → x ≤ y → y < end → getD now (place + (y - p .lo)) 0 ≡ getD old (place + (y - p .lo)) 0
+    unwritten : (place y : ℕ) → Apart (p .to) place (p .hi - p .lo) → x ≤ y → y < end → getD now (place + (x - p .lo) + (y - x)) 0 ≡ getD old (place + (y - p .lo)) 0
     unwritten place y apart lo hi =
-        ⊎-elim (λ behind. walked .kept .above (place + (y - p .lo)) (omega arith)) (λ before. walked .kept .below (place + (y - p .lo)) (omega arith)) apart
+        let same : place + (x - p .lo) + (y - x) ≡ place + (y - p .lo) = omega arith in
+        ap (λ (i : ℕ). getD now i 0) same
+        ∙ ⊎-elim (λ behind. walked .kept .above (place + (y - p .lo)) (omega arith)) (λ before. walked .kept .below (place + (y - p .lo)) (omega arith)) apart
 
-    -- places of a column, counted from the plan's first and from column x
-    place-from : (place y : ℕ) → x ≤ y → place + (x - p .lo) + (y - x) ≡ place + (y - p .lo)
-    place-from place y lo = omega arith
-
-    module _ (value : ℕ → ℕ) (filled : Filled (p .to + (x - p .lo)) (end - x) value now new) where
-      kept : Kept (p .to) (p .to + (end - p .lo)) old new
-      kept =
-          record {
-            same-length = filled .kept .same-length ∙ walked .kept .same-length;
-            below = λ k h. filled .kept .below k (omega arith) ∙ walked .kept .below k h;
-            above = λ k h. filled .kept .above k (omega arith) ∙ walked .kept .above k (omega arith);
-          }
-
+    module _ (keeps : ℕ → Bool)
+        (filled : Filled (p .to + (x - p .lo)) (end - x) (λ (k : ℕ). keptOr (g .low) (keeps k) (getD now (p .first + (x - p .lo) + k) 0) (getD now (p .second + (x - p .lo) + k) 0)) now new)
+        (told : (y : ℕ) → x ≤ y → y < end → keeps (y - x) ≡ eqb (inBlock g R p y) 0) where
       before : (y : ℕ) → p .lo ≤ y → y < x → getD new (p .to + (y - p .lo)) 0 ≡ getD now (p .to + (y - p .lo)) 0
       before y lo h = filled .kept .below (p .to + (y - p .lo)) (omega arith)
 
-      made : (y : ℕ) → x ≤ y → y < end → getD new (p .to + (y - p .lo)) 0 ≡ value (y - x)
-      made y lo h = ap (λ (i : ℕ). getD new i 0) (sym (place-from (p .to) y lo)) ∙ filled .made (y - x) (omega arith)
+      made : (y : ℕ) (begins : Bool) → x ≤ y → y < end → eqb (inBlock g R p y) 0 ≡ begins
+          → getD new (p .to + (y - p .lo)) 0 ≡ keptOr (g .low) begins (getD old (p .first + (y - p .lo)) 0) (getD old (p .second + (y - p .lo)) 0)
+      made y begins lo h is =
+          let place : p .to + (y - p .lo) ≡ p .to + (x - p .lo) + (y - x) = omega arith in
+          ap (λ (i : ℕ). getD new i 0) place
+          ∙ filled .made (y - x) (omega arith)
+          ∙ ap (λ (b : Bool). keptOr (g .low) b (getD now (p .first + (x - p .lo) + (y - x)) 0) (getD now (p .second + (x - p .lo) + (y - x)) 0)) (told y lo h ∙ is)
+          ∙ ap₂ (keptOr (g .low) begins) (unwritten (p .first) y (planned .first-apart) lo h) (unwritten (p .second) y (planned .second-apart) lo h)
 
-      sum : (v : ℕ) → ((y : ℕ) → x ≤ y → y < end → charge y ≡ v) → count + (end - x) * v ≡ total charge (p .lo) (end - p .lo)
-      sum v each =
-          let cut : end - p .lo ≡ (x - p .lo) + (end - x) = omega arith in
-          let here : p .lo + (x - p .lo) ≡ x = omega arith in
-          let same : total charge x (end - x) ≡ (end - x) * v = total-same charge v x (end - x) (λ y lo hi. each y lo (omega arith)) in
-          omega (arith, walked .counted, ap (total charge (p .lo)) cut, total-join charge (p .lo) (x - p .lo) (end - x), ap (λ (i : ℕ). total charge i (end - x)) here)
+      pub walked-more : (more : ℕ) → more ≡ total (comparedOf keeps) 0 (end - x) → Walked g R p end old new (count + more)
+      unfolding keptOr
+      walked-more more is =
+          record {
+            kept =
+                record {
+                  same-length = filled .kept .same-length ∙ walked .kept .same-length;
+                  below = λ k h. filled .kept .below k (omega arith) ∙ walked .kept .below k h;
+                  above = λ k h. filled .kept .above k (omega arith) ∙ walked .kept .above k (omega arith);
+                };
+            begins = λ y lo hi e. by-cases (decLt y x)
+                (λ h. before y lo h ∙ walked .begins y lo h e)
+                (λ h. made y true (omega arith) hi (eq-eqb (inBlock g R p y) 0 e));
+            goes-on = λ y lo hi e. by-cases (decLt y x)
+                (λ h. before y lo h ∙ walked .goes-on y lo h e)
+                (λ h. made y false (omega arith) hi (ne-eqb (inBlock g R p y) 0 (λ z. omega arith)));
+            counted = sum;
+          }
+        where
+          sum : count + more ≡ total charge (p .lo) (end - p .lo)
+          sum =
+              let cut : end - p .lo ≡ (x - p .lo) + (end - x) = omega arith in
+              let here : p .lo + (x - p .lo) ≡ x = omega arith in
+              let same : total (comparedOf keeps) 0 (end - x) ≡ total charge x (end - x) =
+              total-shift (comparedOf keeps) charge 0 x (end - x) (λ k h.
+              let from-x : x + k - x ≡ k = omega arith in
+              ap (λ (q : ℕ). cond (keeps q) 0 1) (zero-add k ∙ sym from-x) ∙ ap (λ (b : Bool). cond b 0 1) (told (x + k) (omega arith) (omega arith))) in
+              omega (arith, is, walked .counted, ap (total charge (p .lo)) cut, total-join charge (p .lo) (x - p .lo) (end - x), ap (λ (i : ℕ). total charge i (end - x)) here)
 
-    pub walked-lane : Copied (p .to + (x - p .lo)) (p .copy + (x - p .lo)) (end - x) now new → ((y : ℕ) → x ≤ y → y < end → inBlock g R p y ≡ 0) → Walked g R p end old new count
-    walked-lane filled lanes =
-        record {
-          kept = kept _ filled;
-          lane = λ y lo hi e. by-cases (decLt y x)
-              (λ h. before _ filled y lo h ∙ walked .lane y lo h e)
-              (λ h. made _ filled y (omega arith) hi ∙ ap (λ (i : ℕ). getD now i 0) (place-from (p .copy) y (omega arith)) ∙ unwritten (p .copy) y (planned .copy-apart) (omega arith) hi);
-          run = λ y lo hi e. by-cases (decLt y x)
-              (λ h. before _ filled y lo h ∙ walked .run y lo h e)
-              (λ h. absurd (omega (arith, lanes y (omega arith) hi)));
-          counted = none;
-        }
-      where
-        none : count ≡ total charge (p .lo) (end - p .lo)
-        none = omega (arith, sum _ filled 0 (λ y lo hi. ap (λ (q : Bool). cond q 0 1) (eq-eqb _ _ (lanes y lo hi))), mul-zero (end - x))
+-- ---- columns that are all at a block's first step, and columns none of which is
 
-    pub walked-run : Chosen (g .low) (p .to + (x - p .lo)) (p .first + (x - p .lo)) (p .second + (x - p .lo)) (end - x) now new → ((y : ℕ) → x ≤ y → y < end → 0 < inBlock g R p y) → Walked g R p end old new (count + (end - x))
-    walked-run filled runs =
-        record {
-          kept = kept _ filled;
-          lane = λ y lo hi e. by-cases (decLt y x)
-              (λ h. before _ filled y lo h ∙ walked .lane y lo h e)
-              (λ h. absurd (omega (arith, runs y (omega arith) hi)));
-          run = λ y lo hi e. by-cases (decLt y x)
-              (λ h. before _ filled y lo h ∙ walked .run y lo h e)
-              (λ h. made _ filled y (omega arith) hi
-              ∙ ap₂ (chosen (g .low)) (ap (λ (i : ℕ). getD now i 0) (place-from (p .first) y (omega arith)) ∙ unwritten (p .first) y (planned .first-apart) (omega arith) hi)
-              (ap (λ (i : ℕ). getD now i 0) (place-from (p .second) y (omega arith)) ∙ unwritten (p .second) y (planned .second-apart) (omega arith) hi));
-          counted = all;
-        }
-      where
-        all : count + (end - x) ≡ total charge (p .lo) (end - p .lo)
-        all = omega (arith, sum _ filled 1 (λ y lo hi. ap (λ (q : Bool). cond q 0 1) (ne-eqb (inBlock g R p y) 0 (λ e. omega (arith, runs y lo hi)))), mul-one (end - x))
+module _ (g : Grid) (p : Plan) (mid : ℕ) (old new : List ℕ) where
+  abbrev first-at : ℕ → ℕ
+  first-at k = getD old (p .first + (mid - p .lo) + k) 0
+
+  abbrev second-at : ℕ → ℕ
+  second-at k = getD old (p .second + (mid - p .lo) + k) 0
+
+  pub top-copied : p .top % g .length ≡ 0 → Copied (p .to + (mid - p .lo)) (p .first + (mid - p .lo)) (p .hi - mid) old new → TopMade g p mid old new 0
+  unfolding keptOr
+  top-copied whole copied =
+      let keeps = eq-eqb (p .top % g .length) 0 whole in
+      record {
+        made = filled-as _ _ _ _ _ _ (λ k h. sym (ap (λ (b : Bool). cond b (first-at k) (chosen (g .low) (first-at k) (second-at k))) keeps)) copied;
+        counted = sym (ap (λ (b : Bool). (p .hi - mid) * cond b 0 1) keeps ∙ mul-zero (p .hi - mid));
+      }
+
+  pub top-chosen : (count : ℕ) → (p .top % g .length ≡ 0 → ⊥) → Chosen (g .low) (p .to + (mid - p .lo)) (p .first + (mid - p .lo)) (p .second + (mid - p .lo)) (p .hi - mid) old new → count ≡ p .hi - mid → TopMade g p mid old new count
+  unfolding keptOr
+  top-chosen count part made all =
+      let goes = ne-eqb (p .top % g .length) 0 part in
+      record {
+        made = filled-as _ _ _ _ _ _ (λ k h. sym (ap (λ (b : Bool). cond b (first-at k) (chosen (g .low) (first-at k) (second-at k))) goes)) made;
+        counted = all ∙ sym (ap (λ (b : Bool). (p .hi - mid) * cond b 0 1) goes ∙ mul-one (p .hi - mid));
+      }
+
+pub top-few : (g : Grid) (p : Plan) (mid : ℕ) (old new : List ℕ) (count : ℕ) → TopMade g p mid old new count → count ≤ p .hi - mid
+top-few g p mid old new count made =
+    let one : (p .hi - mid) * cond (eqb (p .top % g .length) 0) 0 1 ≤ (p .hi - mid) * 1 = mul-le-mul-left (p .hi - mid) (cond-most (eqb (p .top % g .length) 0)) in
+    omega (arith, made .counted, mul-one (p .hi - mid))
+
+-- the columns whose lines entered in the first row close a plan
+module _ (g : Grid) (profile reaches : List ℕ) (R t : ℕ) (at : Row g profile reaches R t) (p : Plan) (planned : Planned g R p) (mid : ℕ) (old now new : List ℕ) (count more : ℕ) where
+  pub walked-top : p .lo ≤ mid → mid ≤ p .hi → ((y : ℕ) → mid ≤ y → y < p .hi → drift (g .line) t ≤ y) → Walked g R p mid old now count → TopMade g p mid now new more → Walked g R p (p .hi) old new (count + more)
+  walked-top from most past walked made =
+      walked-more g R p old now new mid (p .hi) count from most (omega arith) planned walked (λ (k : ℕ). eqb (p .top % g .length) 0) (made .made)
+      (λ y l h. top-keeps g profile reaches R t at p planned y (omega arith) h (past y l h)) more
+      (made .counted ∙ sym (total-same (comparedOf (λ (k : ℕ). eqb (p .top % g .length) 0)) (cond (eqb (p .top % g .length) 0) 0 1) 0 (p .hi - mid) (λ k l h. refl)))

@@ -1,6 +1,6 @@
--- Runs of neighbouring pixels of one row that are all made alike, and how a row is cut into them.
--- In one row the lines of pixels further right entered the page earlier, so the pixels that begin a block lie in lanes, and between the lanes
--- lie runs of pixels that do not.
+-- Runs of neighbouring pixels of one row, and the plans by which a row is made of them.
+-- Lines that entered the page in its first row are all as far into their blocks; those that entered from the side are each where their
+-- mark says.
 -- Assumes nothing.
 use Prim.Native.Nat.{ℕ, suc, _+_, _-_, _*_, _%_, _≤_, _<_}
 use mathlib.Core.Bool.{Bool, cond}
@@ -13,7 +13,7 @@ use Rattle.sweep.specs.Span.{chosen}
 use Rattle.sweep.specs.Grid.{startRow, lineName, entry, Sized, Tabled}
 use Rattle.sweep.specs.GridLaws.{OnPage}
 use Rattle.sweep.specs.Sweeps.{Kept, size, total}
-use Rattle.geometry.specs.Drift.{drift}
+use Rattle.geometry.specs.Drift.{drift, reach}
 use Rattle.geometry.specs.Line.{stepOf}
 use Rattle.sweep.specs.declared.Grid.{Grid}
 use Rattle.sweep.specs.declared.Plan.{Plan}
@@ -33,6 +33,16 @@ Copied to from n old new = Filled to n (λ k. getD old (from + k) 0) old new
 
 abbrev pub Chosen : Bool → ℕ → ℕ → ℕ → ℕ → List ℕ → List ℕ → Type 0
 Chosen low to first second n old new = Filled to n (λ k. chosen low (getD old (first + k) 0) (getD old (second + k) 0)) old new
+
+-- a run whose bytes are kept as the first run has them where their marks say so, else chosen of the two; and how many were compared
+unfoldable pub keptOr : Bool → Bool → ℕ → ℕ → ℕ
+keptOr low keeps a b = cond keeps a (chosen low a b)
+
+abbrev pub ChosenUnless : Bool → (ℕ → Bool) → ℕ → ℕ → ℕ → ℕ → List ℕ → List ℕ → Type 0
+ChosenUnless low keeps to first second n old new = Filled to n (λ k. keptOr low (keeps k) (getD old (first + k) 0) (getD old (second + k) 0)) old new
+
+abbrev pub comparedOf : (ℕ → Bool) → ℕ → ℕ
+comparedOf keeps k = cond (keeps k) 0 1
 
 -- the step at which the line through (R, x) enters the page
 unfoldable pub entryAt : Grid → ℕ → ℕ → ℕ
@@ -62,6 +72,11 @@ pub record FarEdge (g : Grid) (R t b x : ℕ) : Type 0 where
 unfoldable pub placeOn : Grid → ℕ → ℕ → ℕ → ℕ
 placeOn g R t b = (R + b * g .period) * g .width + (drift (g .line) (t + b) - drift (g .line) t)
 
+-- the marks: for lines that have drifted v places when they enter, their entry's place in a block, the last v first
+pub record Marked (g : Grid) (marks : List ℕ) : Type 0 where
+  pub long : g .height ≤ length marks
+  pub mark-is : (v : ℕ) → 1 ≤ v → v < g .height → getD marks (g .height - v) 0 ≡ reach (g .line) v (g .height) % g .length
+
 -- how far the line of a pixel is from its block's first step, for lines cut from step `top` downwards
 unfoldable pub inBlock : Grid → ℕ → Plan → ℕ → ℕ
 inBlock g R p x = (p .top - entryAt g R x) % g .length
@@ -71,21 +86,24 @@ pub record Planned (g : Grid) (R : ℕ) (p : Plan) : Type 0 where
   pub ordered : p .lo ≤ p .hi
   pub columns : p .hi ≤ g .width
   pub to-fits : p .to + (p .hi - p .lo) ≤ size g + size g
-  pub copy-fits : p .copy + (p .hi - p .lo) ≤ size g + size g
   pub first-fits : p .first + (p .hi - p .lo) ≤ size g + size g
   pub second-fits : p .second + (p .hi - p .lo) ≤ size g + size g
-  pub copy-apart : Apart (p .to) (p .copy) (p .hi - p .lo)
   pub first-apart : Apart (p .to) (p .first) (p .hi - p .lo)
   pub second-apart : Apart (p .to) (p .second) (p .hi - p .lo)
   pub entered : (x : ℕ) → p .lo ≤ x → x < p .hi → entryAt g R x ≤ p .top
 
--- a plan carried out from its first column up to column x: in the lanes copies, in the runs between them the choice of two, which is counted
+-- a plan carried out from its first column up to column x: at a block's first step copies, else the choice of two, which is counted
 pub record Walked (g : Grid) (R : ℕ) (p : Plan) (x : ℕ) (old new : List ℕ) (count : ℕ) : Type 0 where
   pub kept : Kept (p .to) (p .to + (x - p .lo)) old new
-  pub lane : (y : ℕ) → p .lo ≤ y → y < x → inBlock g R p y ≡ 0 → getD new (p .to + (y - p .lo)) 0 ≡ getD old (p .copy + (y - p .lo)) 0
-  pub run : (y : ℕ) → p .lo ≤ y → y < x → 0 < inBlock g R p y
+  pub begins : (y : ℕ) → p .lo ≤ y → y < x → inBlock g R p y ≡ 0 → getD new (p .to + (y - p .lo)) 0 ≡ getD old (p .first + (y - p .lo)) 0
+  pub goes-on : (y : ℕ) → p .lo ≤ y → y < x → 0 < inBlock g R p y
       → getD new (p .to + (y - p .lo)) 0 ≡ chosen (g .low) (getD old (p .first + (y - p .lo)) 0) (getD old (p .second + (y - p .lo)) 0)
   pub counted : count ≡ total (λ y. cond (eqb (inBlock g R p y) 0) 0 1) (p .lo) (x - p .lo)
+
+-- the columns from mid on made, all lines being at step `top` of blocks that are cut from the page's first row
+pub record TopMade (g : Grid) (p : Plan) (mid : ℕ) (old new : List ℕ) (count : ℕ) : Type 0 where
+  pub made : Filled (p .to + (mid - p .lo)) (p .hi - mid) (λ k. keptOr (g .low) (eqb (p .top % g .length) 0) (getD old (p .first + (mid - p .lo) + k) 0) (getD old (p .second + (mid - p .lo) + k) 0)) old new
+  pub counted : count ≡ (p .hi - mid) * cond (eqb (p .top % g .length) 0) 0 1
 
 -- ---- the plans of the three sweeps: what is written, what is read, and from which step blocks are counted
 
@@ -94,9 +112,8 @@ pub record ForwardPlan (g : Grid) (R t : ℕ) (p : Plan) : Type 0 where
   pub lo-is : EdgeAt g R t t 1 (g .width) (p .lo)
   pub hi-is : p .hi ≡ g .width
   pub to-is : p .to ≡ R * g .width + p .lo
-  pub copy-is : p .copy ≡ R * g .width + p .lo
-  pub first-is : p .first ≡ (R - g .period) * g .width
-  pub second-is : p .second ≡ R * g .width + p .lo
+  pub first-is : p .first ≡ R * g .width + p .lo
+  pub second-is : p .second ≡ (R - g .period) * g .width
   pub top-is : p .top ≡ t
 
 -- from the next pixel, unless it begins a block; columns from hi on have none after them
@@ -104,7 +121,6 @@ pub record BackwardPlan (g : Grid) (R t hi : ℕ) (p : Plan) : Type 0 where
   pub lo-is : p .lo ≡ 0
   pub hi-is : p .hi ≡ hi
   pub to-is : p .to ≡ size g + R * g .width
-  pub copy-is : p .copy ≡ R * g .width
   pub first-is : p .first ≡ R * g .width
   pub second-is : p .second ≡ size g + placeOn g R t 1
   pub top-is : p .top ≡ suc t
@@ -114,7 +130,6 @@ pub record ResultPlan (g : Grid) (R t lo hi : ℕ) (p : Plan) : Type 0 where
   pub lo-is : p .lo ≡ lo
   pub hi-is : p .hi ≡ hi
   pub to-is : p .to ≡ R * g .width + lo
-  pub copy-is : p .copy ≡ size g + (R - g .back * g .period) * g .width
   pub first-is : p .first ≡ size g + (R - g .back * g .period) * g .width
   pub second-is : p .second ≡ placeOn g R t (g .on) + lo
   pub top-is : p .top ≡ t - g .back

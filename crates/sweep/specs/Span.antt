@@ -25,6 +25,11 @@ unfolding chosen
 chosen-assoc true x y z = omega arith
 chosen-assoc false x y z = omega arith
 
+pub chosen-comm : (low : Bool) (x y : ℕ) → chosen low x y ≡ chosen low y x
+unfolding chosen
+chosen-comm true x y = omega arith
+chosen-comm false x y = omega arith
+
 -- ---- laws
 
 best-join : (low : Bool) (f : ℕ → ℕ) (k m n : ℕ) → best low f k (suc (m + n)) ≡ chosen low (best low f k m) (best low f (suc (k + m)) n)

@@ -8,12 +8,14 @@
 //     rows    the three sweeps, and the pass
 //     row     one row of each sweep
 //     plans   how a row is made: what is written, what is read, where blocks begin
-//     walk    a plan carried out, lane by lane and run by run
+//     walk    a plan carried out
+//     marks   where the lines of side columns are in their blocks
 //     run     runs of neighbouring bytes: copied, or compared and counted
 //     pixel   results at the page's far edge, pixel by pixel
 //     step    where the steps of a pixel's line stand
 use geometry::Line;
 
+mod marks;
 mod pixel;
 mod plans;
 mod row;
@@ -40,13 +42,12 @@ pub struct Made {
     pub count: usize,
 }
 
-// How a part of a row is made, from column lo up to hi: written from place `to` on, copied from `copy` in the lanes whose lines are at a
-// block's first step, counted from step `top`, and chosen of `first` and `second` between them. All places are those of column lo.
+// How a part of a row is made, from column lo up to hi: written from place `to` on, as it stands at `first` where a pixel's line is at a
+// block's first step, counted from step `top`, else chosen of `first` and `second`. All places are those of column lo.
 pub struct Plan {
     pub lo: usize,
     pub hi: usize,
     pub to: usize,
-    pub copy: usize,
     pub first: usize,
     pub second: usize,
     pub top: usize,

@@ -54,9 +54,8 @@ pub fn forward_plan(g: Grid, profile: &[usize], reaches: &[usize], row: usize, s
         lo: lo,
         hi: width,
         to: to,
-        copy: to,
-        first: (row - g.period) * width,
-        second: to,
+        first: to,
+        second: (row - g.period) * width,
         top: step,
     }
 }
@@ -79,7 +78,6 @@ pub fn backward_plan(
         lo: 0,
         hi: hi,
         to: size + own,
-        copy: own,
         first: own,
         second: size + next,
         top: step + 1,
@@ -107,7 +105,6 @@ pub fn result_plan(
         lo: lo,
         hi: hi,
         to: row * width + lo,
-        copy: start,
         first: start,
         second: end + lo,
         top: step - g.back,

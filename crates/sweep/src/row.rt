@@ -3,7 +3,7 @@ ghost use mathlib.Core.Path.{_≡_};
 ghost use Prim.Native.Nat.{_+_, _≤_, _<_, min};
 ghost use lib.ListN.{length};
 ghost use Rattle.sweep.specs.Grid.{Sized, Tabled};
-ghost use Rattle.sweep.specs.Runs.{Row, EdgeAt, FarEdge};
+ghost use Rattle.sweep.specs.Runs.{Row, EdgeAt, FarEdge, Marked};
 ghost use Rattle.sweep.specs.Sweeps.{PartDone, RowSwept, size};
 use super::Grid;
 use super::Sweep;
@@ -17,18 +17,19 @@ pub fn forward_row(
     g: Grid,
     profile: &[usize],
     reaches: &[usize],
+    marks: &[u16],
     bytes: &mut [u8],
     row: usize,
     step: usize,
 ) -> usize
-    requires { ⌜ Row g (now profile) (now reaches) row step × (size g + size g ≤ length (now bytes)) ⌝ }
+    requires { ⌜ Row g (now profile) (now reaches) row step × (size g + size g ≤ length (now bytes)) × Marked g (now marks) ⌝ }
     ensures { λ r. ⌜ RowSwept Sweep.Forward g row (now (bytes .entry)) (now (bytes .exit)) r ⌝ }
 {
     if step == 0 {
         return 0;
     }
     let p = plans::forward_plan(g, profile, reaches, row, step);
-    walk::walk(g, profile, reaches, bytes, row, step, p)
+    walk::walk(g, profile, reaches, marks, bytes, row, step, p)
 }
 
 // The columns that have a next pixel.
@@ -36,12 +37,13 @@ fn backward_part(
     g: Grid,
     profile: &[usize],
     reaches: &[usize],
+    marks: &[u16],
     bytes: &mut [u8],
     row: usize,
     step: usize,
     hi: usize,
 ) -> usize
-    requires { ⌜ Row g (now profile) (now reaches) row step × (size g + size g ≤ length (now bytes)) ⌝ }
+    requires { ⌜ Row g (now profile) (now reaches) row step × (size g + size g ≤ length (now bytes)) × Marked g (now marks) ⌝ }
     requires { ⌜ FarEdge g row step 1 hi ⌝ }
     ensures { λ r. ⌜ PartDone Sweep.Backward g row 0 hi (now (bytes .entry)) (now (bytes .exit)) r ⌝ }
 {
@@ -49,7 +51,7 @@ fn backward_part(
         return 0;
     }
     let p = plans::backward_plan(g, profile, reaches, row, step, hi);
-    walk::walk(g, profile, reaches, bytes, row, step, p)
+    walk::walk(g, profile, reaches, marks, bytes, row, step, p)
 }
 
 // The columns that have none.
@@ -74,15 +76,16 @@ pub fn backward_row(
     g: Grid,
     profile: &[usize],
     reaches: &[usize],
+    marks: &[u16],
     bytes: &mut [u8],
     row: usize,
     step: usize,
 ) -> usize
-    requires { ⌜ Row g (now profile) (now reaches) row step × (size g + size g ≤ length (now bytes)) ⌝ }
+    requires { ⌜ Row g (now profile) (now reaches) row step × (size g + size g ≤ length (now bytes)) × Marked g (now marks) ⌝ }
     ensures { λ r. ⌜ RowSwept Sweep.Backward g row (now (bytes .entry)) (now (bytes .exit)) r ⌝ }
 {
     let hi = plans::far_edge(g, profile, reaches, row, step, 1);
-    let count = backward_part(g, profile, reaches, bytes, row, step, hi);
+    let count = backward_part(g, profile, reaches, marks, bytes, row, step, hi);
     backward_rest(g, profile, reaches, bytes, row, step, hi);
     count
 }
@@ -114,13 +117,14 @@ fn across_part(
     g: Grid,
     profile: &[usize],
     reaches: &[usize],
+    marks: &[u16],
     bytes: &mut [u8],
     row: usize,
     step: usize,
     lo: usize,
     hi: usize,
 ) -> usize
-    requires { ⌜ Row g (now profile) (now reaches) row step × (size g + size g ≤ length (now bytes)) ⌝ }
+    requires { ⌜ Row g (now profile) (now reaches) row step × (size g + size g ≤ length (now bytes)) × Marked g (now marks) ⌝ }
     requires { ⌜ EdgeAt g row step step (g .back) (g .width) lo × FarEdge g row step (g .on) hi ⌝ }
     ensures { λ r. ⌜ PartDone Sweep.Result g row (min lo hi) hi (now (bytes .entry)) (now (bytes .exit)) r ⌝ }
 {
@@ -128,7 +132,7 @@ fn across_part(
         return 0;
     }
     let p = plans::result_plan(g, profile, reaches, row, step, lo, hi);
-    walk::walk(g, profile, reaches, bytes, row, step, p)
+    walk::walk(g, profile, reaches, marks, bytes, row, step, p)
 }
 
 // The windows that end past the line, pixel by pixel.
@@ -162,17 +166,18 @@ pub fn result_row(
     g: Grid,
     profile: &[usize],
     reaches: &[usize],
+    marks: &[u16],
     bytes: &mut [u8],
     row: usize,
     step: usize,
 ) -> usize
-    requires { ⌜ Row g (now profile) (now reaches) row step × (size g + size g ≤ length (now bytes)) ⌝ }
+    requires { ⌜ Row g (now profile) (now reaches) row step × (size g + size g ≤ length (now bytes)) × Marked g (now marks) ⌝ }
     ensures { λ r. ⌜ RowSwept Sweep.Result g row (now (bytes .entry)) (now (bytes .exit)) r ⌝ }
 {
     let lo = walk::edge(g, profile, reaches, row, step, step, g.back, g.width);
     let hi = plans::far_edge(g, profile, reaches, row, step, g.on);
     early_part(g, profile, reaches, bytes, row, step, lo, hi);
-    let across = across_part(g, profile, reaches, bytes, row, step, lo, hi);
+    let across = across_part(g, profile, reaches, marks, bytes, row, step, lo, hi);
     let rest = rest_part(g, profile, reaches, bytes, row, step, hi);
     across + rest
 }

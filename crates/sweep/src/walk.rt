@@ -1,10 +1,12 @@
-// A part of a row made lane by lane and run by run.
+// A part of a row made by its plan.
 ghost use mathlib.Core.Path.{_≡_};
-ghost use Prim.Native.Nat.{_+_, _-_, _%_, _<_, _≤_, min, max};
+ghost use Prim.Native.Nat.{_+_, _-_, _<_, _≤_, min, max};
+ghost use lib.Dec.{eqb};
 ghost use lib.ListN.{length, getD};
+ghost use Rattle.geometry.specs.Drift.{drift};
 ghost use Rattle.sweep.specs.Grid.{Sized};
-ghost use Rattle.sweep.specs.Sweeps.{size};
-ghost use Rattle.sweep.specs.Runs.{entryAt, Row, EdgeAt, Planned, Walked, Copied, Chosen};
+ghost use Rattle.sweep.specs.Sweeps.{size, total};
+ghost use Rattle.sweep.specs.Runs.{Row, EdgeAt, Marked, Planned, Walked, TopMade, Copied, Chosen, ChosenUnless, comparedOf};
 use super::Grid;
 use super::Plan;
 use super::run;
@@ -21,13 +23,6 @@ pub fn nearer(a: usize, b: usize) -> usize
     ensures { λ r. ⌜ r ≡ min a b ⌝ }
 {
     if a < b { a } else { b }
-}
-
-// A step `length` earlier, and step 0 where there is none.
-fn earlier(e: usize, length: usize) -> usize
-    ensures { λ r. ⌜ r ≡ e - length ⌝ }
-{
-    if e < length { 0 } else { e - length }
 }
 
 // Of the columns below hi, the first whose line entered `less` steps before step e or earlier.
@@ -51,44 +46,28 @@ pub fn edge(
     nearer(column, hi)
 }
 
-// The first step of a block, counted down from e, that is not before the entry of the line of column x, or comes next after it.
-fn block_at(
-    g: Grid,
-    profile: &[usize],
-    reaches: &[usize],
-    row: usize,
-    step: usize,
-    x: usize,
-    e: usize,
-) -> usize
-    requires { ⌜ Row g (now profile) (now reaches) row step × (x < g .width) × (entryAt g row x ≤ e) ⌝ }
-    ensures { λ r. ⌜ r ≡ entryAt g row x + (e - entryAt g row x) % g .length ⌝ }
-{
-    let entry = step::entry_at(g, profile, reaches, row, step, x);
-    // Most often the next block down is the one: no division then.
-    if e - entry < g.length {
-        return e;
-    }
-    entry + (e - entry) % g.length
-}
-
+// The columns from one up to another, whose lines are all at a block's first step: the first run is copied, unless it stands there.
 fn copy_part(g: Grid, bytes: &mut [u8], row: usize, p: Plan, from: usize, to: usize)
     requires { ⌜ Sized g × Planned g row p × (size g + size g ≤ length (now bytes)) ⌝ }
     requires { ⌜ (p .lo ≤ from) × (from ≤ to) × (to ≤ p .hi) ⌝ }
-    ensures { λ _. ⌜ Copied (p .to + (from - p .lo)) (p .copy + (from - p .lo)) (to - from) (now (bytes .entry)) (now (bytes .exit)) ⌝ }
+    ensures { λ _. ⌜ Copied (p .to + (from - p .lo)) (p .first + (from - p .lo)) (to - from) (now (bytes .entry)) (now (bytes .exit)) ⌝ }
 {
+    if p.first == p.to {
+        return;
+    }
     let at = from - p.lo;
-    run::copy_run(bytes, p.to + at, p.copy + at, to - from);
+    run::copy_run(bytes, p.to + at, p.first + at, to - from);
 }
 
+// The same where none of them is.
 fn choose_part(g: Grid, bytes: &mut [u8], row: usize, p: Plan, from: usize, to: usize) -> usize
     requires { ⌜ Sized g × Planned g row p × (size g + size g ≤ length (now bytes)) ⌝ }
     requires { ⌜ (p .lo ≤ from) × (from ≤ to) × (to ≤ p .hi) ⌝ }
     ensures { λ r. ⌜ Chosen (g .low) (p .to + (from - p .lo)) (p .first + (from - p .lo)) (p .second + (from - p .lo)) (to - from) (now (bytes .entry)) (now (bytes .exit)) × (r ≡ to - from) ⌝ }
 {
     let at = from - p.lo;
-    if p.second == p.to {
-        return run::choose_into(g.low, bytes, p.to + at, p.first + at, to - from);
+    if p.first == p.to {
+        return run::choose_into(g.low, bytes, p.to + at, p.second + at, to - from);
     }
     run::choose_run(
         g.low,
@@ -100,32 +79,106 @@ fn choose_part(g: Grid, bytes: &mut [u8], row: usize, p: Plan, from: usize, to: 
     )
 }
 
+// At most 240 columns, each as its mark says.
+fn mark_part(
+    g: Grid,
+    marks: &[u16],
+    bytes: &mut [u8],
+    row: usize,
+    p: Plan,
+    from: usize,
+    to: usize,
+    place: usize,
+    mark: u16,
+) -> usize
+    requires { ⌜ Sized g × Planned g row p × (size g + size g ≤ length (now bytes)) ⌝ }
+    requires { ⌜ (p .lo ≤ from) × (from ≤ to) × (to ≤ p .hi) × (to ≤ from + 240) × (place + (to - from) ≤ length (now marks)) ⌝ }
+    ensures { λ r. ⌜ ChosenUnless (g .low) (λ k. eqb (getD (now (marks .entry)) (place + k) 0) mark) (p .to + (from - p .lo)) (p .first + (from - p .lo)) (p .second + (from - p .lo)) (to - from) (now (bytes .entry)) (now (bytes .exit)) × (r ≡ total (comparedOf (λ k. eqb (getD (now (marks .entry)) (place + k) 0) mark)) 0 (to - from)) ⌝ }
+{
+    let at = from - p.lo;
+    if p.first == p.to {
+        return run::mark_into(
+            g.low,
+            bytes,
+            marks,
+            place,
+            mark,
+            p.to + at,
+            p.second + at,
+            to - from,
+        );
+    }
+    run::mark_run(
+        g.low,
+        bytes,
+        marks,
+        place,
+        mark,
+        p.to + at,
+        p.first + at,
+        p.second + at,
+        to - from,
+    )
+}
+
+// The columns up to mid, whose lines entered from the side.
+fn side_part(
+    g: Grid,
+    profile: &[usize],
+    reaches: &[usize],
+    marks: &[u16],
+    bytes: &mut [u8],
+    row: usize,
+    step: usize,
+    p: Plan,
+    mid: usize,
+) -> usize
+    requires { ⌜ Row g (now profile) (now reaches) row step × Planned g row p × (size g + size g ≤ length (now bytes)) ⌝ }
+    requires { ⌜ Marked g (now marks) × (p .lo ≤ mid) × (mid ≤ p .hi) × (mid ≤ max (p .lo) (drift (g .line) step)) ⌝ }
+    ensures { λ r. ⌜ Walked g row p mid (now (bytes .entry)) (now (bytes .exit)) r ⌝ }
+{
+    let drift = step::entry_of(profile, step);
+    let mark = (p.top % g.length) as u16;
+    let mut count: usize = 0;
+    let mut x = p.lo;
+    while x < mid {
+        let end = nearer(mid, x + 240);
+        let place = x + g.height - drift;
+        count += mark_part(g, marks, bytes, row, p, x, end, place, mark);
+        x = end;
+    }
+    count
+}
+
+// The columns from mid on, whose lines entered in the page's first row: all are as far into their blocks.
+fn top_part(g: Grid, bytes: &mut [u8], row: usize, p: Plan, mid: usize) -> usize
+    requires { ⌜ Sized g × Planned g row p × (size g + size g ≤ length (now bytes)) × (p .lo ≤ mid) × (mid ≤ p .hi) ⌝ }
+    ensures { λ r. ⌜ TopMade g p mid (now (bytes .entry)) (now (bytes .exit)) r ⌝ }
+{
+    if p.top % g.length == 0 {
+        copy_part(g, bytes, row, p, mid, p.hi);
+        return 0;
+    }
+    choose_part(g, bytes, row, p, mid, p.hi)
+}
+
 // The plan carried out. It answers its comparisons.
 pub fn walk(
     g: Grid,
     profile: &[usize],
     reaches: &[usize],
+    marks: &[u16],
     bytes: &mut [u8],
     row: usize,
     step: usize,
     p: Plan,
 ) -> usize
     requires { ⌜ Row g (now profile) (now reaches) row step × Planned g row p × (size g + size g ≤ length (now bytes)) ⌝ }
-    requires { ⌜ p .top ≤ step + 1 ⌝ }
+    requires { ⌜ Marked g (now marks) ⌝ }
     ensures { λ r. ⌜ Walked g row p (p .hi) (now (bytes .entry)) (now (bytes .exit)) r ⌝ }
 {
-    let hi = p.hi;
-    let mut count: usize = 0;
-    let mut e = p.top;
-    let mut x = p.lo;
-    while x < hi {
-        let block = block_at(g, profile, reaches, row, step, x, e);
-        let lane = later(x, edge(g, profile, reaches, row, step, block, 1, hi));
-        copy_part(g, bytes, row, p, x, lane);
-        let end = edge(g, profile, reaches, row, step, block, g.length, hi);
-        count += choose_part(g, bytes, row, p, lane, end);
-        x = end;
-        e = earlier(block, g.length);
-    }
-    count
+    let mid = nearer(later(p.lo, step::entry_of(profile, step)), p.hi);
+    let side = side_part(g, profile, reaches, marks, bytes, row, step, p, mid);
+    let top = top_part(g, bytes, row, p, mid);
+    side + top
 }

@@ -40,7 +40,6 @@ returns c =
       lo-is = refl;
       hi-is = refl;
       to-is = refl;
-      copy-is = refl;
       first-is = refl;
       second-is = ap (λ (q : ℕ). g .height * g .width + q) (c .place-on .ensures);
       top-is = add-one _;

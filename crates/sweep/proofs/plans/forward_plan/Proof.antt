@@ -31,7 +31,6 @@ returns c =
       lo-is = c .before .edge .ensures;
       hi-is = refl;
       to-is = refl;
-      copy-is = refl;
       first-is = refl;
       second-is = refl;
       top-is = refl;

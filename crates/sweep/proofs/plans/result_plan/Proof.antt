@@ -59,7 +59,6 @@ returns c =
       lo-is = refl;
       hi-is = refl;
       to-is = refl;
-      copy-is = refl;
       first-is = refl;
       second-is = ap (λ (q : ℕ). q + c .before .before .before .before .before .before .args .lo) (c .before .place-on .ensures);
       top-is = refl;

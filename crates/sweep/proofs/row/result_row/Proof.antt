@@ -10,29 +10,29 @@ use Rattle.sweep.proofs.row.result_row.Statement.{statement}
 use Rattle.sweep.proofs.row.result_row.Tie as tie
 
 edge-requires : tie.Need-edge-requires
-edge-requires c κs = (c .before .before .before .pre .0, omega arith, omega arith)
+edge-requires c κs = (c .before .before .before .before .pre .0, omega arith, omega arith)
 
 far-edge-requires : tie.Need-far-edge-requires
 far-edge-requires c κs =
-    let at = c .before .before .before .before .pre .0 in
+    let at = c .before .before .before .before .before .pre .0 in
     (at, omega (arith, at .sized .length-is, at .sized .length-most))
 
 early-part-requires : tie.Need-early-part-requires
-early-part-requires c κs = (c .before .before .before .before .before .before .pre, (c .before .before .edge .ensures, c .before .far-edge .ensures))
+early-part-requires c κs = ((c .before .before .before .before .before .before .before .pre .0, c .before .before .before .before .before .before .before .pre .1), (c .before .before .edge .ensures, c .before .far-edge .ensures))
 
 across-part-requires : tie.Need-across-part-requires
 across-part-requires c κs =
-    let start = c .before .before .before .before .before .before .before .before .before .before in
-    ((start .pre .0, omega (arith, start .pre .1, c .before .before .before .early-part .ensures .kept .same-length)), (c .before .before .before .before .before .before .edge .ensures, c .before .before .before .before .before .far-edge .ensures))
+    let start = c .before .before .before .before .before .before .before .before .before .before .before in
+    ((start .pre .0, omega (arith, start .pre .1, c .before .before .before .early-part .ensures .kept .same-length), start .pre .2), (c .before .before .before .before .before .before .edge .ensures, c .before .before .before .before .before .far-edge .ensures))
 
 rest-part-requires : tie.Need-rest-part-requires
 rest-part-requires c κs =
-    let start = c .before .before .before .before .before .before .before .before .before .before .before .before .before .before in
+    let start = c .before .before .before .before .before .before .before .before .before .before .before .before .before .before .before in
     ((start .pre .0, omega (arith, start .pre .1, c .before .before .before .before .before .before .before .early-part .ensures .kept .same-length, c .before .before .before .across-part .ensures .kept .same-length)), c .before .before .before .before .before .before .before .before .before .far-edge .ensures)
 
 add-result : tie.Need-add-result
 add-result c =
-    let start = c .before .before .before .before .before .before .before .before .before .before .before .before .before .before .before .before .before in
+    let start = c .before .before .before .before .before .before .before .before .before .before .before .before .before .before .before .before .before .before in
     let a = start .args in
     let hi = c .before .before .before .before .before .before .before .before .before .before .before .before .far-edge .result in
     let lo = c .before .before .before .before .before .before .before .before .before .before .before .before .before .edge .result in
@@ -45,7 +45,7 @@ same-length c = c .before .before .rest-part .ensures .kept .same-length ∙ c .
 
 returns : tie.Need-returns
 returns c =
-    let at = c .before .before .before .before .before .before .before .before .before .before .before .before .before .before .before .before .before .pre .0 in
+    let at = c .before .before .before .before .before .before .before .before .before .before .before .before .before .before .before .before .before .before .pre .0 in
     let most = c .before .before .before .before .before .before .before .before .before .before .before .before .far-edge .ensures .most in
     let two = part-join Result _ _ _ _ _ _ _ _ _ _ (at .row) most zero-le (omega arith) (c .before .before .before .before .before .before .before .before .before .before .early-part .ensures) (c .before .before .before .before .before .before .across-part .ensures) in
     let all = part-join Result _ _ _ _ _ _ _ _ _ _ (at .row) (omega arith) zero-le most two (c .before .before .rest-part .ensures) in

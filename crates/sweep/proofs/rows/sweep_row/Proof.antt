@@ -11,7 +11,7 @@ use Rattle.sweep.proofs.rows.sweep_row.Tie as tie
 
 div-step : tie.Need-div-step
 div-step c =
-    let sized = c .before .before .before .before .pre .0 in
+    let sized = c .before .before .before .before .before .pre .0 in
     omega (arith, sized .period-is, period-forward _ (sized .sound))
 
 -- the code's step of a row
@@ -21,18 +21,18 @@ same g R e = ap (λ (q : ℕ). R / q) e
 
 backward-row-requires : tie.Need-backward-row-requires
 backward-row-requires c κs =
-    let start = c .before .before .before .before .before .before .before in
-    (record { sized = start .pre .0; tabled = start .pre .1; row = start .pre .2; step = same (start .args .g) (start .args .row) (start .pre .0 .period-is) }, start .pre .3)
+    let start = c .before .before .before .before .before .before .before .before in
+    (record { sized = start .pre .0; tabled = start .pre .1; row = start .pre .2; step = same (start .args .g) (start .args .row) (start .pre .0 .period-is) }, start .pre .3, start .pre .4)
 
 forward-row-requires : tie.Need-forward-row-requires
 forward-row-requires c κs =
-    let start = c .before .before .before .before .before .before .before in
-    (record { sized = start .pre .0; tabled = start .pre .1; row = start .pre .2; step = same (start .args .g) (start .args .row) (start .pre .0 .period-is) }, start .pre .3)
+    let start = c .before .before .before .before .before .before .before .before in
+    (record { sized = start .pre .0; tabled = start .pre .1; row = start .pre .2; step = same (start .args .g) (start .args .row) (start .pre .0 .period-is) }, start .pre .3, start .pre .4)
 
 result-row-requires : tie.Need-result-row-requires
 result-row-requires c κs =
-    let start = c .before .before .before .before .before .before .before in
-    (record { sized = start .pre .0; tabled = start .pre .1; row = start .pre .2; step = same (start .args .g) (start .args .row) (start .pre .0 .period-is) }, start .pre .3)
+    let start = c .before .before .before .before .before .before .before .before in
+    (record { sized = start .pre .0; tabled = start .pre .1; row = start .pre .2; step = same (start .args .g) (start .args .row) (start .pre .0 .period-is) }, start .pre .3, start .pre .4)
 
 same-length : tie.Need-same-length
 same-length c = c .before .before .backward-row .ensures .kept .same-length

@@ -11,10 +11,10 @@ use Rattle.sweep.proofs.run.choose_into.Statement.{statement}
 use Rattle.sweep.proofs.run.choose_into.Tie as tie
 
 abbrev Inv-loop : tie.InvT-loop
-Inv-loop low bytes₀ to first n count₀ k₀ bytes count k = (k ≤ n) × Chosen low to first to k bytes₀ bytes × (count ≡ k)
+Inv-loop low bytes₀ to second n count₀ k₀ bytes count k = (k ≤ n) × Chosen low to to second k bytes₀ bytes × (count ≡ k)
 
 abbrev μ-loop : tie.MeasureT-loop
-μ-loop low bytes₀ to first n count₀ k₀ bytes count k = n - k
+μ-loop low bytes₀ to second n count₀ k₀ bytes count k = n - k
 
 loop-holds : tie.Need-loop-holds Inv-loop μ-loop
 loop-holds c = (omega arith, filled-none _ _ _, refl)
@@ -51,8 +51,8 @@ loop-again c =
     let start = c .before .before .before .before .before .before in
     let l = c .before .before .before .before .loop in
     let a = start .args in
-    let left = unread _ (l .k) _ _ (l .bytes) (l .inv .1) (a .first) (a .n) (start .pre .2) (omega arith) in
-    let right = unread _ (l .k) _ _ (l .bytes) (l .inv .1) (a .to) (a .n) (inl (omega arith)) (omega arith) in (
+    let left = unread _ (l .k) _ _ (l .bytes) (l .inv .1) (a .to) (a .n) (inl (omega arith)) (omega arith) in
+    let right = unread _ (l .k) _ _ (l .bytes) (l .inv .1) (a .second) (a .n) (start .pre .2) (omega arith) in (
       omega arith,
       filled-more (a .to) (l .k) _ _ (l .bytes) (l .inv .1) _ (omega (arith, l .inv .1 .kept .same-length)) (c .chosen-of .ensures ∙ ap₂ (chosen (a .low)) left right),
       ap (λ (q : ℕ). q + 1) (l .inv .2),
@@ -66,7 +66,7 @@ returns c =
     let a = c .before .before .before .args in
     let l = c .before .loop in
     let e : l .k ≡ a .n = omega arith in
-    (subst (λ (n : ℕ). Chosen (a .low) (a .to) (a .first) (a .to) n (a .bytes .now) (l .bytes)) e (l .inv .1), l .inv .2 ∙ e)
+    (subst (λ (n : ℕ). Chosen (a .low) (a .to) (a .to) (a .second) n (a .bytes .now) (l .bytes)) e (l .inv .1), l .inv .2 ∙ e)
 
 pub choose-into-spec : {M : Type 1} → statement M
 choose-into-spec =

@@ -1,8 +1,11 @@
 -- `sweep::walk::choose_part` meets its contract: the plan's places, counted from its first column. Assumes nothing.
-use Prim.Native.Nat.{_-_}
+use mathlib.Core.Path.{sym, ap}
+use Prim.Native.Nat.{ℕ, _+_, _-_}
 use native.Mathlib.Omega.{arith}
 use borrow.Author.Needs.{needs}
-use Rattle.sweep.proofs.Running.{apart-part, chosen-at}
+use lib.ListN.{getD}
+use Rattle.sweep.specs.Span.{chosen}
+use Rattle.sweep.proofs.Running.{apart-part, filled-as}
 use Rattle.sweep.proofs.walk.choose_part.Statement.{statement}
 use Rattle.sweep.proofs.walk.choose_part.Tie as tie
 
@@ -11,12 +14,14 @@ choose-into-requires c κs =
     let start = c .before .before .before .before .before .before .before in
     let plan = start .pre .0 .1 in
     let a = start .args in
-    (omega (arith, start .pre, plan .to-fits), omega (arith, start .pre, plan .first-fits), apart-part _ _ _ (a .from - a .p .lo) _ (plan .first-apart) (omega (arith, start .pre)))
+    (omega (arith, start .pre, plan .to-fits), omega (arith, start .pre, plan .second-fits), apart-part _ _ _ (a .from - a .p .lo) _ (plan .second-apart) (omega (arith, start .pre)))
 
 returns : tie.Need-returns
 returns c =
+    let a = c .before .before .before .before .before .before .before .before .before .before .args in
+    let at : ℕ = a .from - a .p .lo in
     let made = c .before .before .choose-into .ensures in
-    (chosen-at _ _ _ _ _ _ _ _ _ (c .before .before .before .before .before .before .if1 .taken) (made .0), made .1)
+    (filled-as _ _ _ _ _ _ (λ k h. ap (λ (q : ℕ). chosen (a .g .low) (getD (a .bytes .now) (q + at + k) 0) (getD (a .bytes .now) (a .p .second + at + k) 0)) (sym (c .before .before .before .before .before .before .if1 .taken))) (made .0), made .1)
 
 choose-run-requires : tie.Need-choose-run-requires
 choose-run-requires c κs =

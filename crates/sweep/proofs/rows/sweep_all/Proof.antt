@@ -1,18 +1,18 @@
--- `sweep::rows::pass` meets its contract: backward, forward, result. Assumes nothing.
+-- `sweep::rows::sweep_all` meets its contract: backward, forward, result. Assumes nothing.
 use native.Mathlib.Omega.{arith}
 use borrow.Author.Needs.{needs}
 use Rattle.sweep.proofs.Paging.{count-small, pass-kept, pass-made, pass-counted, pass-most}
-use Rattle.sweep.proofs.rows.pass.Statement.{statement}
-use Rattle.sweep.proofs.rows.pass.Tie as tie
+use Rattle.sweep.proofs.rows.sweep_all.Statement.{statement}
+use Rattle.sweep.proofs.rows.sweep_all.Tie as tie
 
 add-result : tie.Need-add-result
 add-result c =
-    let sized = c .before .before .before .before .before .before .before .before .before .before .before .before .before .before .before .pre .0 in
+    let sized = c .before .before .before .before .before .before .before .before .before .before .before .before .before .before .before .before .pre .0 in
     record { fits = omega (arith, count-small _ _ _ _ _ _ _ (sized .width-most) (sized .height-most) (c .before .before .before .before .before .before .before .before .before .before .backward .ensures), count-small _ _ _ _ _ _ _ (sized .width-most) (sized .height-most) (c .before .before .before .before .before .before .forward .ensures)) }
 
 add-result-2 : tie.Need-add-result-2
 add-result-2 c =
-    let sized = c .before .before .before .before .before .before .before .before .before .before .before .before .before .before .before .pre .0 in
+    let sized = c .before .before .before .before .before .before .before .before .before .before .before .before .before .before .before .before .pre .0 in
     record { fits = omega (arith, count-small _ _ _ _ _ _ _ (sized .width-most) (sized .height-most) (c .before .before .before .before .before .before .before .before .before .before .backward .ensures), count-small _ _ _ _ _ _ _ (sized .width-most) (sized .height-most) (c .before .before .before .before .before .before .forward .ensures), count-small _ _ _ _ _ _ _ (sized .width-most) (sized .height-most) (c .before .before .result .ensures)) }
 
 returns : tie.Need-returns
@@ -27,6 +27,6 @@ returns c =
       most = pass-most _ _ _ _ _ _ _ _ first second third;
     }
 
-pub pass-spec : {M : Type 1} → statement M
-pass-spec =
+pub sweep-all-spec : {M : Type 1} → statement M
+sweep-all-spec =
     tie.close (tie.spec (λ c κs. search needs) (λ c κs. search needs) (λ c κs. search needs) add-result add-result-2 (λ c. search needs) returns)

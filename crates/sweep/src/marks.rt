@@ -1,0 +1,29 @@
+// Where the lines that entered from the side are in their blocks: a mark for each column left of a row's drift, in the order of the columns.
+ghost use mathlib.Core.Path.{_≡_};
+ghost use Prim.Native.Nat.{_≤_};
+ghost use lib.ListN.{length};
+ghost use Rattle.sweep.specs.Grid.{Sized, Tabled};
+ghost use Rattle.sweep.specs.Runs.{Marked};
+use super::Grid;
+use super::step;
+
+// Marks for the longest side.
+pub fn no_marks() -> [u16; 8192]
+    ensures { λ r. ⌜ length r ≡ 8192 ⌝ }
+{
+    [0u16; 8192]
+}
+
+pub fn fill_marks(g: Grid, profile: &[usize], reaches: &[usize], marks: &mut [u16])
+    requires { ⌜ Sized g × Tabled g (now profile) (now reaches) × (g .height ≤ length (now marks)) ⌝ }
+    ensures { λ _. ⌜ Marked g (now (marks .exit)) ⌝ }
+{
+    let height = g.height;
+    let length = g.length;
+    let mut v: usize = 1;
+    while v < height {
+        let entry = step::entry_of(reaches, v);
+        marks[height - v] = (entry % length) as u16;
+        v += 1;
+    }
+}
