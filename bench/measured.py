@@ -1,0 +1,75 @@
+"""What bench/measure printed, as numbers: see the head of measure.c for its lines."""
+
+import collections
+import typing
+
+OURS, BOXED = "Sotrugla", "64 boxes"
+PEERS = ("OpenCV", "Leptonica")
+
+
+class Case(typing.NamedTuple):
+    """What a time is of, whatever the program."""
+
+    page: str
+    drawing: str
+    operation: str
+    slope: tuple
+    length: int
+
+    def __str__(self):
+        return f"{self.page} {self.drawing}, {self.operation}, slope {slope_text(self.slope)}, L {self.length}"
+
+
+class Time(typing.NamedTuple):
+    ns: float  # a pixel
+    pixels: int  # timed: fewer than the page has where a call on it would take too long
+
+
+class Copy(typing.NamedTuple):
+    """ns a pixel of a memcpy of the page, and of one through pages in turn."""
+
+    in_place: float
+    in_turn: float
+    pixels: int
+
+
+def slope_text(slope):
+    return f"({slope[0]},{slope[1]})"
+
+
+class Measured:
+    def __init__(self, path):
+        self.facts, self.versions, self.checked = {}, {}, []
+        self.copies, self.times = {}, collections.defaultdict(dict)
+        self.document001 = collections.defaultdict(list)
+        with open(path, encoding="utf-8") as lines:
+            for line in lines:
+                self._take(*line.rstrip("\n").split("\t"))
+
+    def _take(self, kind, *words):
+        if kind == "program":
+            self.versions[words[0]] = words[1]
+        elif kind == "checked":
+            self.checked.append(words[0])
+        elif kind == "memcpy":
+            pixels = int(words[2])
+            self.copies[words[0], words[1]] = Copy(*(1e9 * float(word) / pixels for word in words[3:5]), pixels)
+        elif kind == "time":
+            self._take_time(*words)
+        elif kind == "document001":
+            self.document001[words[0]].append([float(word) for word in words[3:6]])
+        else:
+            self.facts[kind] = words[0]
+
+    def _take_time(self, page, drawing, program, operation, dx, dy, length, boxes, pixels, seconds, _calls):
+        case = Case(page, drawing, operation, (int(dx), int(dy)), int(length))
+        name = BOXED if int(boxes) else program
+        self.times[case][name] = Time(1e9 * float(seconds) / int(pixels), int(pixels))
+
+    def copy_of(self, case):
+        return self.copies[case.page, case.drawing]
+
+    def ratio(self, case, name, other):
+        """The time of one program as a multiple of another's, or None where either has none."""
+        times = self.times.get(case, {})
+        return times[name].ns / times[other].ns if name in times and other in times else None

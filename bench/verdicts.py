@@ -1,0 +1,67 @@
+"""Holds the times to what the benchmark must show. This is a report: what misses is named, and nothing fails."""
+
+from measured import BOXED, OURS
+
+
+def lines(measured):
+    yield "What the benchmark must show"
+    yield from _steady(measured)
+    yield from _faster_than_opencv(measured)
+    yield from _near_memcpy(measured)
+    yield from _cheap_boxes(measured)
+
+
+def _verdict(what, figures, limit, least=False):
+    """figures: a ratio for each case. At most the limit, or with least at least, else the case is named."""
+    if not figures:
+        yield f"  not measured  {what}"
+        return
+    missed = {case: ratio for case, ratio in figures.items() if (ratio < limit if least else ratio > limit)}
+    worst = (min if least else max)(figures, key=figures.get)
+    yield (
+        f"  {'MISSED' if missed else 'met'}  {what}: {len(figures) - len(missed)} of {len(figures)} cases;"
+        f" the worst {figures[worst]:.2f} ({worst})"
+    )
+    yield from (f"      misses: {case}: {ratio:.2f}" for case, ratio in missed.items())
+
+
+def _openings(measured, length=None):
+    return [case for case in measured.times if case.operation == "opening" and length in (None, case.length)]
+
+
+def _steady(measured):
+    own = {case: case._replace(length=51) for case in _openings(measured) if case.length >= 11 and case.length != 51}
+    times = measured.times
+    figures = {case: times[case][OURS].ns / times[base][OURS].ns for case, base in own.items() if base in times}
+    yield "(a) the time does not grow with L"
+    yield from _verdict("opening at L from 11 to 1001, at most 1.5 times its own time at L = 51", figures, 1.5)
+
+
+def _against_opencv(measured, length):
+    figures = {case: measured.ratio(case, "OpenCV", OURS) for case in _openings(measured, length)}
+    return {case: ratio for case, ratio in figures.items() if ratio is not None}
+
+
+def _faster_than_opencv(measured):
+    slower = {case: 1 / ratio for case, ratio in _against_opencv(measured, 3).items()}
+    yield "(b) against OpenCV"
+    middle, long = _against_opencv(measured, 51), _against_opencv(measured, 201)
+    yield from _verdict("opening at L = 51, faster: OpenCV takes more than our time", middle, 1, least=True)
+    yield from _verdict("opening at L = 201, at least 4 times faster", long, 4, least=True)
+    yield from _verdict("opening at L = 3, at most 4 times slower", slower, 4)
+
+
+def _near_memcpy(measured):
+    cases = [case for case in _openings(measured, 51) if case.page == "A4"]
+    figures = {case: measured.times[case][OURS].ns / measured.copy_of(case).in_place for case in cases}
+    down = {case: ratio for case, ratio in figures.items() if case.slope == (0, 1)}
+    others = {case: ratio for case, ratio in figures.items() if case.slope != (0, 1)}
+    yield "(c) against memcpy, A4 page"
+    yield from _verdict("opening at L = 51 along (0,1), under 12 times memcpy", down, 12)
+    yield from _verdict("opening at L = 51 along every other slope, under 20 times memcpy", others, 20)
+
+
+def _cheap_boxes(measured):
+    figures = {case: measured.ratio(case, BOXED, OURS) for case in measured.times}
+    yield "(d) hidden boxes"
+    yield from _verdict("64 boxes of 300 by 60 pixels, at most 1.3 times the same job with none", figures, 1.3)
