@@ -70,14 +70,27 @@ pub fn choose_into(low: bool, bytes: &mut [u8], to: usize, second: usize, n: usi
     count
 }
 
-// The first of two values, or the choice of them, which is the one that compares.
+// The first of two values where it is kept, else the choice of them, which is the one that compares. Which way to choose is asked first: the
+// compiler takes sixteen bytes at once then, and not where whether to keep is asked first.
 fn kept_or_chosen(low: bool, keeps: bool, a: u8, b: u8) -> u8
     ensures { λ r. ⌜ r ≡ keptOr low keeps a b ⌝ }
 {
+    if low {
+        if keeps {
+            return a;
+        }
+        if a < b {
+            return a;
+        }
+        return b;
+    }
     if keeps {
         return a;
     }
-    chosen_of(low, a, b)
+    if b < a {
+        return a;
+    }
+    b
 }
 
 // The comparisons of that.
