@@ -97,6 +97,12 @@ static inline struct sotrugla_outcome sotrugla_read(const uint8_t *ticket, size_
     return sotrugla_read_ticket(ticket, ticket_length, (int64_t *)shown, SOTRUGLA_NUMBERS);
 }
 
+/* Whether a box of the ticket holds the pixel at this column and row: 1 if so, else 0. Such a pixel comes
+ * out as 255 in every finished page. A refused ticket hides nothing, as it is read with no boxes. Boxes
+ * are not held to a page: that is for the job to do. Each call reads the whole ticket: who asks about
+ * every pixel of a large page does better to read the boxes once, by sotrugla_read. */
+uint64_t sotrugla_is_hidden(const uint8_t *ticket, size_t ticket_length, size_t column, size_t row);
+
 /* A job by names: a placement is hard to get wrong where every number says what it is. */
 struct sotrugla_job {
     const uint8_t *ticket;

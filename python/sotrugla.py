@@ -123,6 +123,10 @@ def _field(tag, size, *numbers, signed=False):
     return bytes([tag]) + len(value).to_bytes(2, "big") + value
 
 
+def _bytes_of(ticket):
+    return ticket.encode() if isinstance(ticket, Ticket) else ticket
+
+
 def read_ticket(ticket):
     """The ticket alone, read from its bytes. Raises Refused, 1 to 9. Its boxes are not held to a page.
 
@@ -135,6 +139,18 @@ def read_ticket(ticket):
     operation, line, dx, dy, length, origin, phase, count = numbers[:8]
     boxes = [HiddenBox(*numbers[8 + 4 * k : 12 + 4 * k]) for k in range(count)]
     return Ticket(operation, line, dx=dx, dy=dy, length=length, origin=origin, phase=phase, boxes=boxes)
+
+
+def is_hidden(ticket, *, column, row):
+    """Whether a box of the ticket, a Ticket or its bytes, holds the pixel: such a pixel comes out white in every
+    finished page. A refused ticket hides nothing, and boxes are not held to a page. Each call reads the whole ticket.
+
+    >>> ticket = Ticket(ERODE, CONNECTED, dx=1, dy=0, length=2).hide(left=6, top=3, width=2, height=1)
+    >>> is_hidden(ticket, column=7, row=3), is_hidden(ticket, column=3, row=7)
+    (True, False)
+    """
+    with _lent(_bytes_of(ticket), False) as lent:
+        return _library.sotrugla_is_hidden(*lent, _size(column), _size(row)) != 0
 
 
 def scratch_needed(width, height):
@@ -152,12 +168,10 @@ def run(ticket, page, source, spot, output, scratch=None):
     if not (isinstance(page, Page) and isinstance(spot, Spot)):
         raise TypeError("the page is a Page, and its place in the output a Spot")
     numbers = [page.width, page.height, page.offset, page.stride, spot.offset, spot.stride]
-    if isinstance(ticket, Ticket):
-        ticket = ticket.encode()
     if scratch is None:
         scratch = bytearray(scratch_needed(page.width, page.height))
     with contextlib.ExitStack() as lent:
-        read = [lent.enter_context(_lent(buffer, False)) for buffer in (ticket, source)]
+        read = [lent.enter_context(_lent(buffer, False)) for buffer in (_bytes_of(ticket), source)]
         written = [lent.enter_context(_lent(buffer, True)) for buffer in (output, scratch)]
         _see_apart(read, written)
         outcome = _library.sotrugla_run(
@@ -244,6 +258,8 @@ def _load():
     library.sotrugla_scratch_needed.restype = ctypes.c_size_t
     library.sotrugla_read_ticket.argtypes = buffer + [ctypes.POINTER(ctypes.c_int64), ctypes.c_size_t]
     library.sotrugla_read_ticket.restype = _Outcome
+    library.sotrugla_is_hidden.argtypes = buffer + [ctypes.c_size_t] * 2
+    library.sotrugla_is_hidden.restype = ctypes.c_uint64
     return library
 
 

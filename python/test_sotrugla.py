@@ -95,6 +95,25 @@ class Tickets(unittest.TestCase):
             sotrugla.read_ticket(ticket(dx=0, dy=0).encode())
         self.assertEqual((raised.exception.refusal, raised.exception.place), (6, 8))
 
+    def test_hidden(self):
+        """A finished page is white where its ticket hides, and nowhere else on a grey page."""
+        page = Page(offset=0, width=7, height=5, stride=7)
+        job = ticket().hide(left=2, top=1, width=3, height=1).hide(left=6, top=0, width=1, height=5)
+        output = bytearray(35)
+        sotrugla.run(job, page, bytes([9] * 35), Spot(offset=0, stride=7), output)
+        for at, pixel in enumerate(output):
+            self.assertEqual(sotrugla.is_hidden(job, column=at % 7, row=at // 7), pixel == 255)
+
+    def test_hidden_off_every_page(self):
+        """Boxes are not held to a page; a refused ticket has none."""
+        job = ticket().hide(left=65535, top=0, width=65535, height=1).hide(left=3, top=3, width=0, height=9)
+        for column, hidden in ((65534, False), (65535, True), (131069, True), (131070, False), (2**64 - 1, False)):
+            self.assertEqual(sotrugla.is_hidden(job.encode(), column=column, row=0), hidden)
+        self.assertFalse(sotrugla.is_hidden(job, column=3, row=3))
+        self.assertFalse(sotrugla.is_hidden(job.encode() + b"\7", column=65535, row=0))
+        with self.assertRaises(OverflowError):
+            sotrugla.is_hidden(job, column=-1, row=0)
+
     def test_numbers_past_the_ticket(self):
         """The exported function itself, on buffers one short, just long enough and longer."""
         encoded = ticket().encode()

@@ -90,6 +90,16 @@ static void forget_hidden(uint8_t *tray, const struct sotrugla_job *job)
     }
 }
 
+/* "A hidden pixel comes out as 255 in every finished page." */
+static void see_white(const struct sotrugla_job *job)
+{
+    for (size_t row = 0; row < job->height; row++)
+        for (size_t column = 0; column < job->width; column++)
+            if (sotrugla_is_hidden(job->ticket, job->ticket_length, column, row) &&
+                job->output[OFFSET + row * job->output_stride + column] != 255)
+                fail("a hidden pixel is not white");
+}
+
 static void print(const struct sotrugla_job *job, struct sotrugla_outcome answer)
 {
     if (answer.refusal) {
@@ -97,6 +107,7 @@ static void print(const struct sotrugla_job *job, struct sotrugla_outcome answer
         fprintf(stderr, "%s\n", sotrugla_sentence(answer.refusal));
         return;
     }
+    see_white(job);
     printf("done %" PRIu64 "\n", answer.work);
     for (size_t row = 0; row < job->height; row++)
         for (size_t column = 0; column < job->width; column++)

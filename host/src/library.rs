@@ -36,4 +36,11 @@ extern "C" {
         numbers: *mut i64,
         numbers_length: usize,
     ) -> Outcome;
+
+    pub fn sotrugla_is_hidden(
+        ticket: *const u8,
+        ticket_length: usize,
+        column: usize,
+        row: usize,
+    ) -> u64;
 }

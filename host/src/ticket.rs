@@ -147,6 +147,26 @@ impl TicketBytes {
         })?;
         Ok(shown(&numbers))
     }
+
+    /// Whether a box of the ticket holds the pixel: such a pixel comes out white in every finished
+    /// page. A refused ticket hides nothing, and boxes are not held to a page. Each call reads the
+    /// whole ticket.
+    ///
+    /// ```
+    /// use sotrugla::{HiddenBox, Line, Operation, Ticket, TicketBytes};
+    ///
+    /// let ticket = Ticket::new(Operation::Close, Line::connected(1, 0), 5)
+    ///     .hide(HiddenBox { left: 6, top: 3, width: 2, height: 1 })
+    ///     .encode();
+    /// assert!(ticket.hides(7, 3));
+    /// assert!(!ticket.hides(3, 7) && !ticket.hides(8, 3));
+    /// assert!(!TicketBytes::from(vec![1, 0]).hides(7, 3));
+    /// ```
+    pub fn hides(&self, column: usize, row: usize) -> bool {
+        let (ticket, length) = (self.0.as_ptr(), self.0.len());
+        // SAFETY: pointer and length are one slice's, which is only read.
+        unsafe { library::sotrugla_is_hidden(ticket, length, column, row) != 0 }
+    }
 }
 
 /// The numbers of a ticket that was not refused: each is within its field's limits.

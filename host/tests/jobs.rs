@@ -36,6 +36,21 @@ fn a_hidden_box_is_white_and_absent() {
     assert_eq!(output, [5, 255, 5]);
 }
 
+#[test]
+fn a_finished_page_is_white_where_its_ticket_hides() {
+    let page = Page::alone(7, 5);
+    let ticket = ticket()
+        .hide(HiddenBox { left: 2, top: 1, width: 3, height: 1 })
+        .hide(HiddenBox { left: 6, top: 0, width: 1, height: 5 })
+        .encode();
+    let mut output = [0; 35];
+    let mut scratch = vec![0; page.scratch_needed()];
+    assert!(filter(&ticket, page, &[9; 35], page.spot(), &mut output, &mut scratch).is_ok());
+    for (at, &pixel) in output.iter().enumerate() {
+        assert_eq!(ticket.hides(at % 7, at / 7), pixel == 255);
+    }
+}
+
 /// The refusal of a job on the row, which must leave output and scratch as they were.
 fn refused(ticket: &TicketBytes, page: Page, lengths: [usize; 3]) -> (Refusal, u64) {
     let mut output = vec![7; lengths[1]];

@@ -73,8 +73,8 @@ unfolding blank
 showable s bytes = under (judged s) refl
   where
     under : (v : Verdict) → judged s ≡ v → Showable (reading s .ticket)
-    under Good e = let a = good-allowed s bytes e in rw (reading-good s e) (record { dx-to = a .dx-to; dy-to = a .dy-to; places = a .places })
-    under (Refused fault at) e = rw (reading-refused s fault at e) (record { dx-to = omega arith; dy-to = omega arith; places = refl })
+    under Good e = let a = good-allowed s bytes e in rw (reading-good s e) (record { dx-to = a .dx-to; dy-to = a .dy-to; count-to = a .count-to; places = a .places })
+    under (Refused fault at) e = rw (reading-refused s fault at e) (record { dx-to = omega arith; dy-to = omega arith; count-to = omega arith; places = refl })
 
 pub read-showable : (s : List ℕ) (r : Reading) → Bytes s → r ≡ reading s → Showable (r .ticket)
 read-showable s r bytes e = rw e (showable s bytes)

@@ -59,4 +59,5 @@ numbersAfter ticket numbers =
 pub record Showable (t : Ticket) : Type 0 where
   pub dx-to : natAbs (t .dx) ≤ 255
   pub dy-to : natAbs (t .dy) ≤ 255
+  pub count-to : t .count ≤ 64
   pub places : length (t .boxes) ≡ 64

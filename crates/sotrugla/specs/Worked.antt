@@ -1,4 +1,4 @@
--- Values of the definitions that hosts meet: the scratch of a page, and a ticket shown as numbers. Assumes nothing.
+-- Values of the definitions that hosts meet: the scratch of a page, a ticket shown as numbers, and what a ticket hides. Assumes nothing.
 use mathlib.Core.Path.{_≡_, refl}
 use Prim.Native.Nat.{ℕ}
 use mathlib.Core.List.{List, [], _∷_, _++_}
@@ -8,6 +8,8 @@ use Rattle.ticket.specs.Fields.{byteAt, numberAt, signed16, signedAt, operation
 use Rattle.ticket.specs.Judging.{unless, _then_, judgeHead, judgeSize, judgeField, operationKnown, lineKnown, isPeriodic, divided, coprime, vectorAllowed, lengthAllowed, originAllowed, phaseAllowed, judgeOperation, judgeLine, judgeVector, judgeLength, judgeOrigin, judgePhase, judgeBox, judgeBoxes, judged}
 use Rattle.ticket.specs.Reading.{blank, boxPlace, boxPlaces, shown, shownUnder, reading}
 use Rattle.tray.specs.Placement.{sideAllowed, scratchNeeded}
+use Rattle.filter.specs.Seen.{covers, hidden, boxesOf}
+use Rattle.sotrugla.specs.Hiding.{hiddenBy}
 use Rattle.sotrugla.specs.Outcome.{scratchFor}
 use Rattle.sotrugla.specs.Shown.{wordOf, boxNumbers, verdictOutcome, readOutcome, numbersAfter}
 use Rattle.sotrugla.specs.declared.Outcome.{Outcome}
@@ -36,3 +38,9 @@ empty : (_≡_ {A = Outcome} (readOutcome [] 264) (record { refusal = 1; place =
     × (numbersAfter [] (replicate 263 7) ≡ replicate 263 7)
 unfolding byteAt numberAt unless _then_ judgeHead judgeSize judgeField judgeOperation judgeLine judgeVector judgeLength judgeOrigin judgePhase judgeBox judgeBoxes judged blank shownUnder reading wordOf boxNumbers verdictOutcome readOutcome numbersAfter
 empty = (refl, refl, refl, refl)
+
+-- the box is columns 6 to 261 of row 3; with a byte too many the ticket is refused, and hides nothing
+hides : (hiddenBy opening 6 3 ∷ hiddenBy opening 261 3 ∷ hiddenBy opening 5 3 ∷ hiddenBy opening 262 3 ∷ hiddenBy opening 6 2 ∷ hiddenBy opening 6 4 ∷ hiddenBy opening 3 6 ∷ hiddenBy (opening ++ (7 ∷ [])) 6 3 ∷ [])
+    ≡ (1 ∷ 1 ∷ 0 ∷ 0 ∷ 0 ∷ 0 ∷ 0 ∷ 0 ∷ [])
+unfolding shallow steep byteAt numberAt signed16 signedAt operationIn lineIn dxIn dyIn lengthIn originIn phaseIn boxHead boxIn boxesIn unless _then_ judgeHead judgeSize judgeField operationKnown lineKnown isPeriodic divided coprime vectorAllowed lengthAllowed originAllowed phaseAllowed judgeOperation judgeLine judgeVector judgeLength judgeOrigin judgePhase judgeBox judgeBoxes judged blank boxPlace boxPlaces shown shownUnder reading covers hidden boxesOf
+hides = refl

@@ -8,6 +8,7 @@ ghost use lib.ListN.{length};
 ghost use Rattle.filter.specs.Job.{lengths, answer, outputAfter, scratchAfter};
 ghost use Rattle.sotrugla.specs.Shown.{readOutcome, numbersAfter};
 ghost use Rattle.sotrugla.specs.Outcome.{placementsOf, outcomeOf, scratchFor};
+ghost use Rattle.sotrugla.specs.Hiding.{hiddenBy};
 use filter::Placements;
 use filter::Spot;
 
@@ -115,4 +116,15 @@ pub extern "C" fn sotrugla_read_ticket(ticket: &[u8], numbers: &mut [u64]) -> Ou
     let verdict = reading.verdict;
     shown::put_ticket(reading.ticket, numbers);
     shown::verdict_outcome(verdict)
+}
+
+// Whether a box of the ticket hides the pixel at column, row: 1 or 0. A refused ticket is shown without boxes and hides nothing. The
+// boxes are not held to a page, whose sides are not known here: a box that a job would refuse (14) hides the pixels that it covers.
+#[no_mangle]
+pub extern "C" fn sotrugla_is_hidden(ticket: &[u8], column: usize, row: usize) -> u64
+    ensures { λ r. ⌜ r ≡ hiddenBy (now (ticket .entry)) column row ⌝ }
+{
+    let reading = ticket::read(ticket);
+    let hidden = boxes::hides(reading.ticket, column, row);
+    if hidden { 1 } else { 0 }
 }
