@@ -8,6 +8,7 @@ pub mod Parts
 pub mod Places
 pub mod Planning
 pub mod Reading
+pub mod Resting
 pub mod Resulting
 pub mod Rowing
 pub mod Running

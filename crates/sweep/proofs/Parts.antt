@@ -4,7 +4,7 @@ use mathlib.Core.Bool.{Bool, cond}
 use mathlib.Core.List.{List}
 use mathlib.Core.Logic.{by-cases}
 use Prim.Native.Nat.{ℕ, _+_, _-_, _*_, _≤_, _<_}
-use native.Mathlib.Nat.{mul-zero}
+use native.Mathlib.Nat.{mul-zero, mul-one}
 use native.Mathlib.Decide.{decLt}
 use native.Mathlib.Omega.{arith}
 use lib.Dec.{eqb}
@@ -13,7 +13,7 @@ use borrow.Author.Tests.{eq-eqb, ne-eqb}
 use Rattle.sweep.specs.Span.{chosen}
 use Rattle.sweep.specs.Grid.{Page}
 use Rattle.sweep.specs.Sweeps.{Ready, PartDone, target, newAt, costAt, total}
-use Rattle.sweep.specs.Runs.{Copied, inBlock, Walked}
+use Rattle.sweep.specs.Runs.{Copied, Chosen, inBlock, Walked}
 use Rattle.sweep.specs.declared.Grid.{Grid}
 use Rattle.sweep.specs.declared.Plan.{Plan}
 use Rattle.sweep.specs.declared.Sweep.{Sweep}
@@ -60,6 +60,28 @@ module _ (sweep : Sweep) (g : Grid) (R : ℕ) (old : List ℕ) where
             ap (λ (i : ℕ). getD new i 0) place ∙ copied .made (y - lo) (omega arith) ∙ each y l k .0 f (ready y l k);
         counted = nothing lo hi h (λ y l k. each y l k .1);
       }
+
+  -- columns that are all chosen
+  pub chosen-part : (lo hi to first second : ℕ) (new : List ℕ) → lo ≤ hi → to ≡ base + lo → Chosen (g .low) to first second (hi - lo) old new
+      → ((y : ℕ) → lo ≤ y → y < hi → Charged (chosen (g .low) (getD old (first + (y - lo)) 0) (getD old (second + (y - lo)) 0)) y) → PartDone sweep g R lo hi old new (hi - lo)
+  chosen-part lo hi to first second new h is made each =
+      record {
+        kept =
+            record {
+              same-length = made .kept .same-length;
+              below = λ k l. made .kept .below k (omega arith);
+              above = λ k l. made .kept .above k (omega arith);
+            };
+        made = λ f ready y l k.
+            let place : base + y ≡ to + (y - lo) = omega arith in
+            ap (λ (i : ℕ). getD new i 0) place ∙ made .made (y - lo) (omega arith) ∙ each y l k .0 f (ready y l k);
+        counted = all;
+      }
+    where
+      all : hi - lo ≡ total (costAt sweep g R) lo (hi - lo)
+      all =
+          let same : total (costAt sweep g R) lo (hi - lo) ≡ (hi - lo) * 1 = total-same (costAt sweep g R) 1 lo (hi - lo) (λ y l k. sym (each y l (omega arith) .1)) in
+          omega (arith, mul-one (hi - lo))
 
   -- columns that a plan makes
   pub walked-part : (p : Plan) (new : List ℕ) (count : ℕ) → p .lo ≤ p .hi → p .to ≡ base + p .lo → Walked g R p (p .hi) old new count

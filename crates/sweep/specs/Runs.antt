@@ -72,6 +72,23 @@ pub record FarEdge (g : Grid) (R t b x : ℕ) : Type 0 where
 unfoldable pub placeOn : Grid → ℕ → ℕ → ℕ → ℕ
 placeOn g R t b = (R + b * g .period) * g .width + (drift (g .line) (t + b) - drift (g .line) t)
 
+-- the place in a page of a step of the line of column x, for columns at or past the row's drift
+unfoldable pub placeAt : Grid → ℕ → ℕ → ℕ → ℕ → ℕ
+placeAt g R t s x = (R - t * g .period + s * g .period) * g .width + (x + drift (g .line) s - drift (g .line) t)
+
+-- of the columns from lo on, the first whose line has left the page by a step
+pub record StepEdge (g : Grid) (R t lo s x : ℕ) : Type 0 where
+  pub least : lo ≤ x
+  pub most : x ≤ g .width
+  pub left : (y : ℕ) → lo ≤ y → y < x → OnPage g (startRow g R) (lineName g R y) s
+  pub right : (y : ℕ) → x ≤ y → y < g .width → OnPage g (startRow g R) (lineName g R y) s → ⊥
+
+-- columns from mid on whose lines entered in the first row, and whose windows end past the line
+pub record PastLine (g : Grid) (R t mid : ℕ) : Type 0 where
+  pub most : mid ≤ g .width
+  pub entered : mid < g .width → drift (g .line) t ≤ mid
+  pub past : (y : ℕ) → mid ≤ y → y < g .width → OnPage g (startRow g R) (lineName g R y) (t + g .on) → ⊥
+
 -- the marks: for lines that have drifted v places when they enter, their entry's place in a block, the last v first
 pub record Marked (g : Grid) (marks : List ℕ) : Type 0 where
   pub long : g .height ≤ length marks

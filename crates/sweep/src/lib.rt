@@ -11,13 +11,15 @@
 //     walk    a plan carried out
 //     marks   where the lines of side columns are in their blocks
 //     run     runs of neighbouring bytes: copied, or compared and counted
-//     pixel   results at the page's far edge, pixel by pixel
+//     rest    results whose windows end past their line
+//     pixel   such a result by itself
 //     step    where the steps of a pixel's line stand
 use geometry::Line;
 
 mod marks;
 mod pixel;
 mod plans;
+mod rest;
 mod row;
 pub mod rows;
 mod run;

@@ -7,8 +7,8 @@ ghost use Rattle.sweep.specs.Runs.{Row, EdgeAt, FarEdge, Marked};
 ghost use Rattle.sweep.specs.Sweeps.{PartDone, RowSwept, size};
 use super::Grid;
 use super::Sweep;
-use super::pixel;
 use super::plans;
+use super::rest;
 use super::run;
 use super::walk;
 
@@ -135,33 +135,6 @@ fn across_part(
     walk::walk(g, profile, reaches, marks, bytes, row, step, p)
 }
 
-// The windows that end past the line, pixel by pixel.
-fn rest_part(
-    g: Grid,
-    profile: &[usize],
-    reaches: &[usize],
-    bytes: &mut [u8],
-    row: usize,
-    step: usize,
-    hi: usize,
-) -> usize
-    requires { ⌜ Row g (now profile) (now reaches) row step × (size g + size g ≤ length (now bytes)) ⌝ }
-    requires { ⌜ FarEdge g row step (g .on) hi ⌝ }
-    ensures { λ r. ⌜ PartDone Sweep.Result g row hi (g .width) (now (bytes .entry)) (now (bytes .exit)) r ⌝ }
-{
-    let width = g.width;
-    let base = row * width;
-    let mut count: usize = 0;
-    let mut x = hi;
-    while x < width {
-        let made = pixel::rest_at(g, profile, reaches, bytes, row, step, x);
-        bytes[base + x] = made.value;
-        count += made.count;
-        x += 1;
-    }
-    count
-}
-
 pub fn result_row(
     g: Grid,
     profile: &[usize],
@@ -178,6 +151,6 @@ pub fn result_row(
     let hi = plans::far_edge(g, profile, reaches, row, step, g.on);
     early_part(g, profile, reaches, bytes, row, step, lo, hi);
     let across = across_part(g, profile, reaches, marks, bytes, row, step, lo, hi);
-    let rest = rest_part(g, profile, reaches, bytes, row, step, hi);
+    let rest = rest::rest_part(g, profile, reaches, bytes, row, step, hi);
     across + rest
 }

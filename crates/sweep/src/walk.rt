@@ -13,7 +13,7 @@ use super::run;
 use super::step;
 
 // Of two columns the one further right, and the one further left.
-fn later(a: usize, b: usize) -> usize
+pub fn later(a: usize, b: usize) -> usize
     ensures { λ r. ⌜ r ≡ max a b ⌝ }
 {
     if a < b { b } else { a }

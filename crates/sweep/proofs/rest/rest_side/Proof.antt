@@ -1,6 +1,6 @@
--- `sweep::row::rest_part` meets its contract: the columns from hi up to x are made. Assumes nothing.
+-- `sweep::rest::rest_side` meets its contract: the columns from hi up to x are made. Assumes nothing.
 use mathlib.Core.Path.{_≡_, sym, ap, subst}
-use Prim.Native.Nat.{ℕ, _+_, _*_, _-_, _≤_}
+use Prim.Native.Nat.{ℕ, _+_, _*_, _-_, _≤_, _<_}
 use native.Mathlib.Nat.{zero-add}
 use native.Mathlib.Omega.{arith}
 use Rattle.sweep.specs.Grid.{resultingAt}
@@ -10,14 +10,14 @@ use Rattle.sweep.specs.declared.Sweep.the-variants.{Result}
 use Rattle.sweep.proofs.Planning.{pixel, own-near}
 use Rattle.sweep.proofs.Places.{row-end}
 use Rattle.sweep.proofs.Rowing.{part-none, part-one, part-join, total-most, cost-most}
-use Rattle.sweep.proofs.row.rest_part.Statement.{statement}
-use Rattle.sweep.proofs.row.rest_part.Tie as tie
+use Rattle.sweep.proofs.rest.rest_side.Statement.{statement}
+use Rattle.sweep.proofs.rest.rest_side.Tie as tie
 
 abbrev Inv-loop : tie.InvT-loop
-Inv-loop g profile reaches bytes₀ row step hi width base count₀ x₀ bytes count x = (hi ≤ x) × (x ≤ width) × PartDone Result g row hi x bytes₀ bytes count
+Inv-loop g profile reaches bytes₀ row step hi mid base count₀ x₀ bytes count x = (hi ≤ x) × (x ≤ mid) × PartDone Result g row hi x bytes₀ bytes count
 
 abbrev μ-loop : tie.MeasureT-loop
-μ-loop g profile reaches bytes₀ row step hi width base count₀ x₀ bytes count x = width - x
+μ-loop g profile reaches bytes₀ row step hi mid base count₀ x₀ bytes count x = mid - x
 
 -- a result costs at most one comparison
 rest-few : (g : Grid) (R x : ℕ) → resultingAt g R x ≤ 1
@@ -25,38 +25,39 @@ unfolding costAt
 rest-few g R x = cost-most Result g R x
 
 mul-base : tie.Need-mul-base Inv-loop μ-loop
-mul-base c = record { fits = omega (arith, own-near _ _ _ _ _ (c .before .before .before .pre .0 .0)) }
+mul-base c = record { fits = omega (arith, own-near _ _ _ _ _ (c .before .before .before .before .pre .0 .0)) }
 
 loop-holds : tie.Need-loop-holds Inv-loop μ-loop
-loop-holds c = (omega arith, c .before .before .before .pre .1 .most, part-none _ _ _ _ _)
+loop-holds c = (omega arith, c .before .before .before .before .pre .1 .1, part-none _ _ _ _ _)
 
 rest-at-requires : tie.Need-rest-at-requires Inv-loop μ-loop
 rest-at-requires c κs =
-    let start = c .before .before .before .before .before .before in
+    let start = c .before .before .before .before .before .before .before in
     let l = c .before .before .loop in
     let column = c .before .loop-test .taken in
-    (pixel _ _ _ _ _ (start .pre .0 .0) _ column, omega (arith, start .pre .0 .1, l .inv .2 .kept .same-length), start .pre .1 .right _ (l .inv .0) column)
+    let inside : l .x < start .args .g .width = omega (arith, column, start .pre .1 .2) in
+    (pixel _ _ _ _ _ (start .pre .0 .0) _ inside, omega (arith, start .pre .0 .1, l .inv .2 .kept .same-length), start .pre .1 .0 .right _ (l .inv .0) inside)
 
 add-bytes : tie.Need-add-bytes Inv-loop μ-loop
 add-bytes c =
-    let at = c .before .before .before .before .before .before .before .pre .0 .0 in
+    let at = c .before .before .before .before .before .before .before .before .pre .0 .0 in
     record { fits = omega (arith, own-near _ _ _ _ _ at, at .sized .width-most, c .before .before .loop-test .taken) }
 
 slice-write-bytes : tie.Need-slice-write-bytes Inv-loop μ-loop
 slice-write-bytes c =
-    let start = c .before .before .before .before .before .before .before in
+    let start = c .before .before .before .before .before .before .before .before in
     omega (arith, row-end _ _ _ _ _ (start .pre .0 .0), start .pre .0 .1, c .before .before .before .loop .inv .2 .kept .same-length, c .before .before .loop-test .taken)
 
 add-count : tie.Need-add-count Inv-loop μ-loop
 add-count c =
-    let start = c .before .before .before .before .before .before .before .before in
+    let start = c .before .before .before .before .before .before .before .before .before in
     let a = start .args in
     let l = c .before .before .before .before .loop in
     let all = total-most (costAt Result (a .g) (a .row)) (cost-most Result (a .g) (a .row)) (a .hi) (l .x - a .hi) in
     record { fits = omega (arith, all, l .inv .2 .counted, c .before .rest-at .ensures .1, rest-few (a .g) (a .row) (l .x), c .before .before .before .loop-test .taken, start .pre .0 .0 .sized .width-most) }
 
 add-x : tie.Need-add-x Inv-loop μ-loop
-add-x c = record { fits = omega (arith, c .before .before .before .loop-test .taken, c .before .before .before .before .before .before .before .before .pre .0 .0 .sized .width-most) }
+add-x c = record { fits = omega (arith, c .before .before .before .loop-test .taken, c .before .before .before .before .before .before .before .before .before .pre .0 .0 .sized .width-most) }
 
 loop-less : tie.Need-loop-less Inv-loop μ-loop
 loop-less c = omega (arith, c .before .before .before .loop-test .taken)
@@ -64,7 +65,7 @@ loop-less c = omega (arith, c .before .before .before .loop-test .taken)
 loop-again : tie.Need-loop-again Inv-loop μ-loop
 unfolding target newAt costAt
 loop-again c =
-    let start = c .before .before .before .before .before .before .before .before in
+    let start = c .before .before .before .before .before .before .before .before .before in
     let a = start .args in
     let l = c .before .before .before .before .loop in
     let column = c .before .before .before .loop-test .taken in
@@ -76,13 +77,13 @@ same-length c = c .before .loop .inv .2 .kept .same-length
 
 returns : tie.Need-returns Inv-loop μ-loop
 returns c =
-    let a = c .before .before .before .before .before .args in
+    let a = c .before .before .before .before .before .before .args in
     let l = c .before .loop in
-    let e : l .x ≡ a .g .width = omega (arith, l .inv .1) in
+    let e : l .x ≡ a .mid = omega (arith, l .inv .1) in
     subst (λ (n : ℕ). PartDone Result (a .g) (a .row) (a .hi) n (a .bytes .now) (l .bytes) (l .count)) e (l .inv .2)
 
-pub rest-part-spec : {M : Type 1} → statement M
-rest-part-spec =
+pub rest-side-spec : {M : Type 1} → statement M
+rest-side-spec =
     tie.close
     (tie.spec
     Inv-loop
