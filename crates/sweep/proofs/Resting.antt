@@ -10,7 +10,7 @@ use Rattle.geometry.specs.Line.{period}
 use Rattle.geometry.specs.Drift.{drift}
 use Rattle.geometry.specs.Laws.{period-forward, drift-rises, drift-bound}
 use Rattle.sweep.specs.Span.{chosen}
-use Rattle.sweep.specs.Grid.{Page, Pixel, startRow, lineName, entry, rowAt, columnAt, number, spot}
+use Rattle.sweep.specs.Grid.{Pixel, startRow, lineName, entry, rowAt, columnAt, number, spot}
 use Rattle.sweep.specs.GridLaws.{OnPage, row-fits, spot-on}
 use Rattle.sweep.specs.Sweeps.{Ready, PartDone, target, newAt, costAt, size}
 use Rattle.sweep.specs.Runs.{Row, Copied, Chosen, entryAt, placeAt, StepEdge, PastLine}

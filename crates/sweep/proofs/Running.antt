@@ -9,7 +9,7 @@ use native.Mathlib.Omega.{arith}
 use borrow.Author.Count.{below-more}
 use lib.ListN.{length, getD, set, length-set}
 use lib.Seq.{getD-set-same, getD-set-other}
-use Rattle.sweep.specs.Sweeps.{Kept, total}
+use Rattle.sweep.specs.Sweeps.{total}
 use Rattle.sweep.specs.Runs.{Apart, Filled, comparedOf}
 use Rattle.sweep.proofs.Rowing.{total-more, total-most, cond-most}
 

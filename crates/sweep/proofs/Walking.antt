@@ -14,7 +14,7 @@ use Rattle.geometry.specs.Drift.{drift, reach}
 use Rattle.geometry.specs.Laws.{drift-rises}
 use Rattle.sweep.specs.Grid.{lineName, entry}
 use Rattle.sweep.specs.GridLaws.{entry-at, entry-by}
-use Rattle.sweep.specs.Sweeps.{Kept, total}
+use Rattle.sweep.specs.Sweeps.{total}
 use Rattle.sweep.specs.Span.{chosen}
 use Rattle.sweep.specs.Runs.{Apart, Filled, Copied, Chosen, keptOr, comparedOf, TopMade, Row, entryAt, EdgeAt, Marked, inBlock, Planned, Walked}
 use Rattle.sweep.specs.declared.Grid.{Grid}

@@ -1,7 +1,7 @@
 -- `sweep::rest::choose_from` meets its contract: no column, or the places of its columns. Assumes nothing.
-use mathlib.Core.Path.{_≡_, refl, sym, ap, subst, _∙_}
+use mathlib.Core.Path.{_≡_, sym, ap}
 use mathlib.Core.Logic.{inl}
-use Prim.Native.Nat.{ℕ, _+_, _-_, _*_, _≤_, _<_}
+use Prim.Native.Nat.{ℕ, _+_, _-_, _*_, _≤_}
 use native.Mathlib.Omega.{arith}
 use Rattle.sweep.proofs.Bounds.{product}
 use Rattle.sweep.proofs.Planning.{here, own-near}

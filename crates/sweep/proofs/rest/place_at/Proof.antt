@@ -1,6 +1,6 @@
 -- `sweep::rest::place_at` meets its contract: the step's row and column. Assumes nothing.
-use mathlib.Core.Path.{_≡_, ap₂, _∙_}
-use Prim.Native.Nat.{ℕ, _+_, _-_, _*_, _≤_, _<_}
+use mathlib.Core.Path.{ap₂, _∙_}
+use Prim.Native.Nat.{ℕ, _+_, _-_, _*_, _≤_}
 use native.Mathlib.Omega.{arith}
 use Rattle.sweep.specs.Runs.{placeAt}
 use Rattle.sweep.proofs.Bounds.{product}
