@@ -233,6 +233,9 @@ module _ (t : Turn) (page : ℕ → ℕ → ℕ) where
   pub part-empty : (a e b : ℕ) (tray : List ℕ) → Part page t a e b b tray tray
   part-empty a e b tray = record { moved = moved-none (t .target) page tray; right = λ i from to k low high. absurd (omega arith) }
 
+  pub part-end : (a e e′ b f : ℕ) (x y : List ℕ) → e ≡ e′ → Part page t a e b f x y → Part page t a e′ b f x y
+  part-end a e e′ b f x y same p = subst (λ (q : ℕ). Part page t a q b f x y) same p
+
   pub part-size : (a e b f : ℕ) (x y : List ℕ) → Part page t a e b f x y → length y ≡ length x
   part-size a e b f x y p = moved-length (t .target) page x y (p .moved)
 

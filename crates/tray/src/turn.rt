@@ -146,8 +146,36 @@ fn turn_tile(from: &[u8], t: Turn, to: &mut [u8], a: usize, b: usize)
     put_tile(&tile, t, to, a, b);
 }
 
-// Sixteen columns of the source become sixteen rows of the target. Down a strip the target's rows are filled from left to right, so that
+// Four tiles of the source, side by side, become four of the target, below one another: what is read of a row is then as long as the
+// machine takes from memory at once.
+fn turn_tiles(from: &[u8], t: Turn, to: &mut [u8], a: usize, b: usize)
+    requires { ⌜ Turnable t (length (now from)) (length (now to)) ⌝ }
+    requires { ⌜ (a + 64 ≤ t .target .height) × (b + 16 ≤ t .target .width) ⌝ }
+    ensures { λ _. ⌜ Part (turnedPixel (now (from .entry)) t) t a (a + 64) b (b + 16) (now (to .entry)) (now (to .exit)) ⌝ }
+{
+    turn_tile(from, t, to, a, b);
+    turn_tile(from, t, to, a + SIDE, b);
+    turn_tile(from, t, to, a + 2 * SIDE, b);
+    turn_tile(from, t, to, a + 3 * SIDE, b);
+}
+
+// Sixty-four columns of the source become as many rows of the target. Down a band the target's rows are filled from left to right, so that
 // what is read and written stays in the cache.
+fn turn_band(from: &[u8], t: Turn, to: &mut [u8], a: usize)
+    requires { ⌜ Turnable t (length (now from)) (length (now to)) ⌝ }
+    requires { ⌜ a + 64 ≤ t .target .height ⌝ }
+    ensures { λ _. ⌜ Part (turnedPixel (now (from .entry)) t) t a (a + 64) 0 (t .target .width) (now (to .entry)) (now (to .exit)) ⌝ }
+{
+    let width = t.target.width;
+    let mut b: usize = 0;
+    while SIDE <= width - b {
+        turn_tiles(from, t, to, a, b);
+        b += SIDE;
+    }
+    turn_rows(from, t, to, a, a + 4 * SIDE, b);
+}
+
+// Sixteen columns of the source become sixteen rows of the target.
 fn turn_strip(from: &[u8], t: Turn, to: &mut [u8], a: usize)
     requires { ⌜ Turnable t (length (now from)) (length (now to)) ⌝ }
     requires { ⌜ a + 16 ≤ t .target .height ⌝ }
@@ -162,18 +190,41 @@ fn turn_strip(from: &[u8], t: Turn, to: &mut [u8], a: usize)
     turn_rows(from, t, to, a, a + SIDE, b);
 }
 
-// The target becomes the source transposed.
-fn turn_page(from: &[u8], t: Turn, to: &mut [u8])
+// The target's rows in bands, as far as bands go. It answers how many rows are filled.
+fn turn_bands(from: &[u8], t: Turn, to: &mut [u8]) -> usize
     requires { ⌜ Turnable t (length (now from)) (length (now to)) ⌝ }
-    ensures { λ _. ⌜ now (to .exit) ≡ written (t .target) (turnedPixel (now (from .entry)) t) (now (to .entry)) ⌝ }
+    ensures { λ r. ⌜ (r ≤ t .target .height) × Part (turnedPixel (now (from .entry)) t) t 0 r 0 (t .target .width) (now (to .entry)) (now (to .exit)) ⌝ }
 {
     let height = t.target.height;
     let mut a: usize = 0;
+    while 4 * SIDE <= height - a {
+        turn_band(from, t, to, a);
+        a += 4 * SIDE;
+    }
+    a
+}
+
+// The rows from one on in strips, and what no strip covers.
+fn turn_strips(from: &[u8], t: Turn, to: &mut [u8], start: usize)
+    requires { ⌜ Turnable t (length (now from)) (length (now to)) × (start ≤ t .target .height) ⌝ }
+    ensures { λ _. ⌜ Part (turnedPixel (now (from .entry)) t) t start (t .target .height) 0 (t .target .width) (now (to .entry)) (now (to .exit)) ⌝ }
+{
+    let height = t.target.height;
+    let mut a = start;
     while SIDE <= height - a {
         turn_strip(from, t, to, a);
         a += SIDE;
     }
     turn_rows(from, t, to, a, height, 0);
+}
+
+// The target becomes the source transposed.
+fn turn_page(from: &[u8], t: Turn, to: &mut [u8])
+    requires { ⌜ Turnable t (length (now from)) (length (now to)) ⌝ }
+    ensures { λ _. ⌜ now (to .exit) ≡ written (t .target) (turnedPixel (now (from .entry)) t) (now (to .entry)) ⌝ }
+{
+    let a = turn_bands(from, t, to);
+    turn_strips(from, t, to, a);
 }
 
 // Where the compact page stands in its own tray.
