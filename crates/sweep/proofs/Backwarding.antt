@@ -3,13 +3,14 @@ use mathlib.Core.Path.{_≡_, sym, ap, ap₂, _∙_, subst}
 use mathlib.Core.List.{List}
 use mathlib.Core.Logic.{_⊎_, inl, inr}
 use Prim.Native.Nat.{ℕ, suc, _+_, _-_, _*_, _%_, _<_}
+use native.Mathlib.Nat.{add-assoc}
 use native.Mathlib.Omega.{arith}
 use lib.ListN.{getD}
 use Rattle.sweep.specs.Span.{chosen}
 use Rattle.sweep.specs.Grid.{startRow, lineName, number, lineSteps, spot}
 use Rattle.sweep.specs.GridLaws.{row-fits}
 use Rattle.sweep.specs.Sweeps.{Ready, PartDone, target, newAt, costAt, size}
-use Rattle.sweep.specs.Runs.{Row, FarEdge, Copied, placeOn, inBlock, Planned, Walked, BackwardPlan}
+use Rattle.sweep.specs.Runs.{Row, FarEdge, placeOn, inBlock, Planned, Walked, BackwardPlan}
 use Rattle.sweep.specs.declared.Grid.{Grid}
 use Rattle.sweep.specs.declared.Plan.{Plan}
 use Rattle.sweep.specs.declared.Sweep.the-variants.{Backward}
@@ -18,11 +19,11 @@ use Rattle.sweep.proofs.Reading.{read-B, row-later}
 use Rattle.sweep.proofs.Planning.{pixel}
 use Rattle.sweep.proofs.Places.{from-entry, spot-ahead, row-end, far-fits, far-on}
 use Rattle.sweep.proofs.Walking.{entry-own}
-use Rattle.sweep.proofs.Parts.{Free, Charged, copied-part, walked-part}
+use Rattle.sweep.proofs.Parts.{Free, Charged, own-part, walked-part}
 
 module _ (g : Grid) (profile reaches : List ℕ) (R t : ℕ) (at : Row g profile reaches R t) (old : List ℕ) (hi : ℕ) (far : FarEdge g R t 1 hi) where
   -- at a block's or a line's last step the value stays
-  last-value : (y : ℕ) → y < g .width → (suc (number g R y) % g .length ≡ 0) ⊎ (suc (number g R y) ≡ lineSteps g R y) → Free Backward g R old (getD old (R * g .width + y) 0) y
+  last-value : (y : ℕ) → y < g .width → (suc (number g R y) % g .length ≡ 0) ⊎ (suc (number g R y) ≡ lineSteps g R y) → Free Backward g R old (getD old (size g + (R * g .width + y)) 0) y
   unfolding Ready newAt costAt
   last-value y column ends =
       let here = pixel g profile reaches R t at y column in (
@@ -42,7 +43,7 @@ module _ (g : Grid) (profile reaches : List ℕ) (R t : ℕ) (at : Row g profile
           to-fits = omega (arith, plan .lo-is, plan .hi-is, plan .to-is);
           first-fits = omega (arith, plan .lo-is, plan .hi-is, plan .first-is);
           second-fits = omega (arith, plan .lo-is, plan .hi-is, plan .second-is);
-          first-apart = inr (omega (arith, plan .lo-is, plan .hi-is, plan .to-is, plan .first-is));
+          first-apart = inl (omega (arith, plan .to-is, plan .first-is));
           second-apart = inl (omega (arith, plan .to-is, plan .second-is, far-on g profile reaches R t at 1));
           entered = λ y l h. omega (arith, plan .top-is, entry-own g profile reaches R t at y (omega (arith, plan .hi-is)));
         }
@@ -55,7 +56,7 @@ module _ (g : Grid) (profile reaches : List ℕ) (R t : ℕ) (at : Row g profile
       column : y < g .width
       column = omega (arith, far .most)
 
-      own-place : (place : ℕ) → place ≡ R * g .width → place + (y - p .lo) ≡ R * g .width + y
+      own-place : (place : ℕ) → place ≡ size g + R * g .width → place + (y - p .lo) ≡ size g + (R * g .width + y)
       own-place place is = omega (arith, plan .lo-is)
 
       lane : inBlock g R p y ≡ 0 → Free Backward g R old (getD old (p .first + (y - p .lo)) 0) y
@@ -90,10 +91,9 @@ module _ (g : Grid) (profile reaches : List ℕ) (R t : ℕ) (at : Row g profile
         (λ y l h e. lane y (omega (arith, plan .hi-is)) e) (λ y l h e. run y (omega (arith, plan .hi-is)) e)))
 
   -- columns that have no next pixel
-  pub backward-last : (to own : ℕ) (new : List ℕ) → own ≡ R * g .width + hi → to ≡ size g + own → Copied to own (g .width - hi) old new → PartDone Backward g R hi (g .width) old new 0
+  pub backward-last : PartDone Backward g R hi (g .width) old old 0
   unfolding target
-  backward-last to own new own-is to-is copied =
-      copied-part Backward g R old hi (g .width) to own new (far .most) (omega arith) copied (λ y l h.
-      let place : own + (y - hi) ≡ R * g .width + y = omega arith in
-      subst (λ (i : ℕ). Free Backward g R old (getD old i 0) y) (sym place)
+  backward-last =
+      own-part Backward g R old hi (g .width) (far .most) (λ y l h.
+      subst (λ (i : ℕ). Free Backward g R old (getD old i 0) y) (sym (add-assoc (size g) (R * g .width) y))
       (last-value y h (inr (no-next g profile reaches R t y (pixel g profile reaches R t at y h) (far .right y l h)))))

@@ -15,7 +15,7 @@ use Rattle.sweep.specs.declared.Grid.{Grid}
 use Rattle.sweep.specs.declared.Plan.{Plan}
 use Rattle.sweep.specs.declared.Sweep.the-variants.{Forward}
 use Rattle.sweep.proofs.Making.{ahead-first, ahead-first-cost, before, ahead-next, ahead-next-cost}
-use Rattle.sweep.proofs.Reading.{read-A, row-earlier}
+use Rattle.sweep.proofs.Reading.{read-A, row-earlier, row-before}
 use Rattle.sweep.proofs.Rowing.{part-join}
 use Rattle.sweep.proofs.Planning.{pixel, rows-back}
 use Rattle.sweep.proofs.Places.{from-entry, spot-behind, row-end}
@@ -88,7 +88,7 @@ module _ (g : Grid) (profile reaches : List ℕ) (R t : ℕ) (at : Row g profile
             λ f ready.
                 ap₂ (chosen (g .low))
                 (ap (λ (i : ℕ). getD old i 0) (own-place (p .first) (plan .first-is)) ∙ ready .0)
-                (ap (λ (i : ℕ). getD old i 0) place ∙ read-A g profile reaches R t y here old _ 0 R (t - 1) there zero-le (row-earlier g profile reaches R t y here (t - 1) (omega arith)) (ready .1))
+                (ap (λ (i : ℕ). getD old i 0) place ∙ read-A g profile reaches R t y here old _ (R - g .period) R (t - 1) there (row-before g profile reaches R t y here) (row-earlier g profile reaches R t y here (t - 1) (omega arith)) (ready .1))
                 ∙ chosen-comm (g .low) (f R y) _
                 ∙ ahead-next g profile reaches R t y here going f,
             ahead-next-cost g profile reaches R t y here going,

@@ -1,8 +1,8 @@
 -- What a sweep reads at a step of a pixel's line, where the rows that it reads hold their page. Assumes nothing.
 use mathlib.Core.Path.{_≡_, sym, ap, ap₂, _∙_}
 use mathlib.Core.List.{List}
-use Prim.Native.Nat.{ℕ, zero, suc, _+_, _-_, _*_, _%_, _≤_, _<_, zero-le}
-use native.Mathlib.Nat.{mul-le-mul-right, suc-mul, zero-add, add-zero, mod-lt}
+use Prim.Native.Nat.{ℕ, zero, suc, _+_, _-_, _*_, _%_, _≤_, _<_, min, zero-le}
+use native.Mathlib.Nat.{mul-le-mul-right, suc-mul, add-mul, zero-add, add-zero, mod-lt}
 use native.Mathlib.Omega.{arith}
 use lib.ListN.{getD}
 use Rattle.geometry.specs.Line.{period}
@@ -41,6 +41,17 @@ module _ (g : Grid) (profile reaches : List ℕ) (R t x : ℕ) (at : Pixel g pro
       let far : suc s * period (g .line) ≤ t * period (g .line) = mul-le-mul-right (period (g .line)) h in
       omega (arith, own-row, suc-mul s (period (g .line)))
 
+  -- one step before is one period up, and the window's last step in the rows that the window reaches
+  pub row-before : R - g .period ≤ rowAt g u₀ (t - 1)
+  unfolding rowAt
+  row-before =
+      let near : t * period (g .line) ≤ suc (t - 1) * period (g .line) = mul-le-mul-right (period (g .line)) (omega arith) in
+      omega (arith, own-row, at .sized .period-is, suc-mul (t - 1) (period (g .line)))
+
+  pub row-on : (b : ℕ) → rowAt g u₀ (t + b) ≡ R + b * g .period
+  unfolding rowAt
+  row-on b = omega (arith, own-row, add-mul t b (period (g .line)), ap (λ (q : ℕ). b * q) (at .sized .period-is))
+
   module _ (bytes : List ℕ) (f : Page) (lo hi s : ℕ) (there : OnPage g u₀ z₀ s) (low : lo ≤ rowAt g u₀ s) (high : rowAt g u₀ s < hi) where
     pub read-B : RowsHold bytes (size g) g f lo hi → getD bytes (size g + spot g u₀ z₀ s) 0 ≡ f (rowAt g u₀ s) (columnAt g z₀ s)
     unfolding RowsHold
@@ -55,7 +66,7 @@ module _ (g : Grid) (profile reaches : List ℕ) (R t x : ℕ) (at : Pixel g pro
         ∙ holds (rowAt g u₀ s) low high (columnAt g z₀ s) (column-fits g (at .sized) u₀ z₀ s (small g profile reaches R t x at) there)
 
   -- in A at a step on from the pixel: lower rows, or the pixel itself
-  pub read-on : (bytes : List ℕ) (f : Page) (b : ℕ) → OnPage g u₀ z₀ (t + b) → getD bytes (R * g .width + x) 0 ≡ f R x → RowsHold bytes 0 g f (suc R) (g .height)
+  pub read-on : (bytes : List ℕ) (f : Page) (b : ℕ) → OnPage g u₀ z₀ (t + b) → getD bytes (R * g .width + x) 0 ≡ f R x → RowsHold bytes 0 g f (suc R) (min (g .height) (suc (R + b * g .period)))
       → getD bytes (spot g u₀ z₀ (t + b)) 0 ≡ f (rowAt g u₀ (t + b)) (columnAt g z₀ (t + b))
   read-on bytes f zero there own rows =
       let here : t + 0 ≡ t = add-zero t in
@@ -65,7 +76,7 @@ module _ (g : Grid) (profile reaches : List ℕ) (R t x : ℕ) (at : Pixel g pro
       ∙ own
       ∙ sym (ap₂ f row column)
   read-on bytes f (suc b) there own rows =
-      read-A bytes f (suc R) (g .height) (t + suc b) there (row-later (t + suc b) (omega arith)) (row-fits g (at .sized) u₀ z₀ (t + suc b) (small g profile reaches R t x at) there) rows
+      read-A bytes f (suc R) (min (g .height) (suc (R + suc b * g .period))) (t + suc b) there (row-later (t + suc b) (omega arith)) (omega (arith, row-fits g (at .sized) u₀ z₀ (t + suc b) (small g profile reaches R t x at) there, row-on (suc b))) rows
 
   -- a result that is made of two: its first part
   module _ (bytes : List ℕ) (inside rest : ℕ) (across : Across g bytes R t x inside rest) where

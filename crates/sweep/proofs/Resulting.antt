@@ -9,7 +9,7 @@ use lib.ListN.{getD}
 use Rattle.sweep.specs.Span.{chosen}
 use Rattle.sweep.specs.Grid.{startRow, lineName, number, spot}
 use Rattle.sweep.specs.GridLaws.{OnPage, row-fits}
-use Rattle.sweep.specs.Sweeps.{Ready, PartDone, target, newAt, costAt, size}
+use Rattle.sweep.specs.Sweeps.{Ready, PartDone, target, newAt, costAt, size, windowRows}
 use Rattle.sweep.specs.Runs.{Row, EdgeAt, FarEdge, Copied, placeOn, entryAt, inBlock, Planned, Walked, ResultPlan}
 use Rattle.sweep.specs.declared.Grid.{Grid}
 use Rattle.sweep.specs.declared.Plan.{Plan}
@@ -23,7 +23,7 @@ use Rattle.sweep.proofs.Parts.{Free, Charged, copied-part, walked-part}
 module _ (g : Grid) (profile reaches : List ℕ) (R t : ℕ) (at : Row g profile reaches R t) (old : List ℕ) (lo hi : ℕ) (near : EdgeAt g R t t (g .back) (g .width) lo) (far : FarEdge g R t (g .on) hi) where
   -- windows that begin before the line
   pub early-made : (to from n : ℕ) (new : List ℕ) → to ≡ R * g .width → from ≡ placeOn g R t (g .on) → n ≡ min lo hi → Copied to from n old new → PartDone Result g R 0 (min lo hi) old new 0
-  unfolding target Ready newAt costAt
+  unfolding target Ready newAt costAt windowRows
   early-made to from n new to-is from-is few copied =
       let all : n ≡ min lo hi - 0 = omega arith in
       copied-part Result g R old 0 (min lo hi) to from new zero-le (omega arith) (subst (λ (n : ℕ). Copied to from n old new) all copied) (λ y l h.
@@ -103,7 +103,7 @@ module _ (g : Grid) (profile reaches : List ℕ) (R t : ℕ) (at : Row g profile
           )
 
       run : 0 < inBlock g R p y → Charged Result g R old (chosen (g .low) (getD old (p .first + (y - p .lo)) 0) (getD old (p .second + (y - p .lo)) 0)) y
-      unfolding Ready newAt costAt
+      unfolding Ready newAt costAt windowRows
       run goes =
           let here = pixel g profile reaches R t at y column in
           let going : 0 < (number g R y - g .back) % g .length = omega (arith, in-number) in

@@ -118,7 +118,7 @@ module _ (g : Grid) (R lo hi : ℕ) (old new : List ℕ) (n : ℕ) (rows : R < g
   pub still-ready : (sweep : Sweep) (f : Page) → Kept (target sweep g + R * g .width + lo) (target sweep g + R * g .width + hi) old new → Ready sweep g old f R n → Ready sweep g new f R n
   unfolding Ready target RowsHold
   still-ready Backward f kept (own, after) = (
-    kept .below (R * g .width + n) (omega (arith, inside)) ∙ own,
+    kept .above (size g + (R * g .width + n)) (omega arith) ∙ own,
     λ R′ lo hi x′ k. kept .above (size g + (R′ * g .width + x′)) (omega (arith, later R′ x′ lo)) ∙ after R′ lo hi x′ k,
   )
   still-ready Forward f kept (own, before) = (

@@ -138,7 +138,7 @@ pub record BackwardPlan (g : Grid) (R t hi : ℕ) (p : Plan) : Type 0 where
   pub lo-is : p .lo ≡ 0
   pub hi-is : p .hi ≡ hi
   pub to-is : p .to ≡ size g + R * g .width
-  pub first-is : p .first ≡ R * g .width
+  pub first-is : p .first ≡ size g + R * g .width
   pub second-is : p .second ≡ size g + placeOn g R t 1
   pub top-is : p .top ≡ suc t
 

@@ -1,6 +1,7 @@
 -- What each sweep makes, what it costs, and what it must find.
 -- Assumes nothing.
-use Prim.Native.Nat.{ℕ, zero, suc, _+_, _-_, _*_, _%_, _≤_, _<_}
+use Prim.Native.Nat.{ℕ, zero, suc, _+_, _-_, _*_, _%_, _≤_, _<_, min, max}
+use mathlib.Core.Logic.{_⊎_}
 use mathlib.Core.Path.{_≡_}
 use mathlib.Core.List.{List}
 use lib.ListN.{length, getD}
@@ -35,14 +36,18 @@ costAt Result g R x = resultingAt g R x
 unfoldable pub RowsHold : List ℕ → ℕ → Grid → Page → ℕ → ℕ → Type 0
 RowsHold bytes base g f lo hi = (R : ℕ) → lo ≤ R → R < hi → (x : ℕ) → x < g .width → getD bytes (base + (R * g .width + x)) 0 ≡ f R x
 
+-- the rows up to which the windows of a row reach
+unfoldable pub windowRows : Grid → ℕ → ℕ
+windowRows g R = min (g .height) (suc (R + g .on * g .period))
+
 -- what a sweep finds at a pixel (R, x), whatever page f the pass filters: at the pixel and in the rows it reads
 unfoldable pub Ready : Sweep → Grid → List ℕ → Page → ℕ → ℕ → Type 0
 Ready Backward g bytes f R x =
-    (getD bytes (R * g .width + x) 0 ≡ f R x) × RowsHold bytes (size g) g (toEndAt g f) (suc R) (g .height)
-Ready Forward g bytes f R x = (getD bytes (R * g .width + x) 0 ≡ f R x) × RowsHold bytes 0 g (fromStartAt g f) 0 R
+    (getD bytes (size g + (R * g .width + x)) 0 ≡ f R x) × RowsHold bytes (size g) g (toEndAt g f) (suc R) (g .height)
+Ready Forward g bytes f R x = (getD bytes (R * g .width + x) 0 ≡ f R x) × RowsHold bytes 0 g (fromStartAt g f) (R - g .period) R
 Ready Result g bytes f R x =
     (getD bytes (R * g .width + x) 0 ≡ fromStartAt g f R x)
-    × RowsHold bytes 0 g (fromStartAt g f) (suc R) (g .height)
+    × RowsHold bytes 0 g (fromStartAt g f) (suc R) (windowRows g R)
     × RowsHold bytes (size g) g (toEndAt g f) 0 (g .height)
 
 -- the sum of n numbers from the k-th on
@@ -78,30 +83,32 @@ RowSwept sweep g R old new count = PartDone sweep g R 0 (g .width) old new count
 
 -- ---- whole pages
 
--- what a sweep finds before it begins, whatever page f the pass filters
-unfoldable pub PageReady : Sweep → Grid → List ℕ → Page → Type 0
-PageReady Backward g bytes f = RowsHold bytes 0 g f 0 (g .height)
-PageReady Forward g bytes f = RowsHold bytes 0 g f 0 (g .height)
-PageReady Result g bytes f = RowsHold bytes 0 g (fromStartAt g f) 0 (g .height) × RowsHold bytes (size g) g (toEndAt g f) 0 (g .height)
-
 -- the comparisons of a row
 abbrev pub rowCost : Sweep → Grid → ℕ → ℕ
 rowCost sweep g R = total (costAt sweep g R) 0 (g .width)
 
--- the rows from lo up to hi are swept, everything else is as it was, and the comparisons are counted
-pub record RowsDone (sweep : Sweep) (g : Grid) (lo hi : ℕ) (old new : List ℕ) (count : ℕ) : Type 0 where
-  pub kept : Kept (target sweep g + lo * g .width) (target sweep g + hi * g .width) old new
-  pub made : (f : Page) → PageReady sweep g old f → RowsHold new (target sweep g) g (newAt sweep g f) lo hi
-  pub counted : count ≡ total (rowCost sweep g) lo (hi - lo)
+-- the backward sweep, up the rows: where page f stands in the scratch at a place, in its rows from least up to hi, and the rows from hi
+-- on are swept, those from lo up to hi are swept too, everything else is as it was, and the comparisons are counted
+pub record Raised (base : ℕ) (g : Grid) (least lo hi : ℕ) (old new : List ℕ) (count : ℕ) : Type 0 where
+  pub kept : Kept (size g + lo * g .width) (size g + hi * g .width) old new
+  pub made : (f : Page) → RowsHold old base g f least hi → RowsHold old (size g) g (toEndAt g f) hi (g .height) → RowsHold new (size g) g (toEndAt g f) lo hi
+  pub counted : count ≡ total (rowCost Backward g) lo (hi - lo)
 
-abbrev pub Swept : Sweep → Grid → List ℕ → List ℕ → ℕ → Type 0
-Swept sweep g old new count = RowsDone sweep g 0 (g .height) old new count
+-- the forward sweep and close behind it the results, down the rows: the running extremes are made in the rows above `ahead`, and of them
+-- the results in the rows above `done`
+pub record Lowered (g : Grid) (ahead done : ℕ) (old new : List ℕ) (count : ℕ) : Type 0 where
+  pub kept : Kept 0 (ahead * g .width) old new
+  pub starts : (f : Page) → RowsHold old 0 g f 0 (g .height) → RowsHold new 0 g (fromStartAt g f) done ahead
+  pub made : (f : Page) → RowsHold old 0 g f 0 (g .height) → RowsHold old (size g) g (toEndAt g f) 0 (g .height) → RowsHold new 0 g (windowedAt g f) 0 done
+  pub counted : count ≡ total (rowCost Forward g) 0 ahead + total (rowCost Result g) 0 done
 
--- the sweeps that go down the rows
-abbrev pub GoesDown : Sweep → Type 0
-GoesDown Backward = ⊥
-GoesDown Forward = Unit {0}
-GoesDown Result = Unit {0}
+-- how many rows the results stay behind: as many as a window reaches on, and at least one step, as the forward sweep reads one step back
+unfoldable pub lag : Grid → ℕ
+lag g = min (max (g .on) 1 * g .period) (g .height)
+
+-- a row is swept where it is asked for; else nothing happens
+abbrev pub SweptIf : Type 0 → Sweep → Grid → ℕ → List ℕ → List ℕ → ℕ → Type 0
+SweptIf asked sweep g R old new count = (asked × RowSwept sweep g R old new count) ⊎ ((asked → ⊥) × (new ≡ old) × (count ≡ 0))
 
 -- the comparisons of a sweep and of a pass
 abbrev pub sweepCost : Sweep → Grid → ℕ

@@ -72,12 +72,12 @@ pub fn backward_plan(
     ensures { λ r. ⌜ BackwardPlan g row step hi r ⌝ }
 {
     let size = g.height * g.width;
-    let own = row * g.width;
+    let own = size + row * g.width;
     let next = place_on(g, profile, reaches, row, step, 1);
     Plan {
         lo: 0,
         hi: hi,
-        to: size + own,
+        to: own,
         first: own,
         second: size + next,
         top: step + 1,

@@ -54,24 +54,7 @@ fn backward_part(
     walk::walk(g, profile, reaches, marks, bytes, row, step, p)
 }
 
-// The columns that have none.
-fn backward_rest(
-    g: Grid,
-    profile: &[usize],
-    reaches: &[usize],
-    bytes: &mut [u8],
-    row: usize,
-    step: usize,
-    hi: usize,
-)
-    requires { ⌜ Row g (now profile) (now reaches) row step × (size g + size g ≤ length (now bytes)) ⌝ }
-    requires { ⌜ FarEdge g row step 1 hi ⌝ }
-    ensures { λ _. ⌜ PartDone Sweep.Backward g row hi (g .width) (now (bytes .entry)) (now (bytes .exit)) 0 ⌝ }
-{
-    let own = row * g.width + hi;
-    run::copy_run(bytes, g.height * g.width + own, own, g.width - hi);
-}
-
+// The columns that have none keep their values.
 pub fn backward_row(
     g: Grid,
     profile: &[usize],
@@ -85,9 +68,7 @@ pub fn backward_row(
     ensures { λ r. ⌜ RowSwept Sweep.Backward g row (now (bytes .entry)) (now (bytes .exit)) r ⌝ }
 {
     let hi = plans::far_edge(g, profile, reaches, row, step, 1);
-    let count = backward_part(g, profile, reaches, marks, bytes, row, step, hi);
-    backward_rest(g, profile, reaches, bytes, row, step, hi);
-    count
+    backward_part(g, profile, reaches, marks, bytes, row, step, hi)
 }
 
 // The windows that begin before the line and end in it: all in the line's first block.

@@ -1,14 +1,16 @@
 // The sweeps, row by row. A sweep reads only what is not yet written or already final, so it writes in place.
 ghost use mathlib.Core.Path.{_≡_};
-ghost use Prim.Native.Nat.{_+_, _≤_, _<_};
+ghost use Prim.Native.Nat.{_+_, _-_, _≤_, _<_};
 ghost use lib.ListN.{length};
 ghost use Rattle.sweep.specs.Grid.{Sized, Tabled};
 ghost use Rattle.sweep.specs.Runs.{Marked};
-ghost use Rattle.sweep.specs.Sweeps.{RowSwept, Swept, GoesDown, Passed, size};
+ghost use Rattle.sweep.specs.Sweeps.{RowSwept, Raised, Lowered, SweptIf, lag, Passed, size};
 use super::Grid;
 use super::Sweep;
 use super::marks;
 use super::row;
+use super::run;
+use super::walk;
 
 // One row of a sweep, and its comparisons.
 fn sweep_row(
@@ -31,25 +33,35 @@ fn sweep_row(
     }
 }
 
-// A sweep down the rows.
-fn sweep_down(
-    sweep: Sweep,
+// How many rows are copied at once for the backward sweep: few enough to stay in the cache while it goes up over them.
+const BAND: usize = 32;
+
+// A band of rows of the backward sweep, from one up to another. They are copied from page A first: memory is read faster down the rows.
+fn backward_band(
     g: Grid,
     profile: &[usize],
     reaches: &[usize],
     marks: &[u16],
     bytes: &mut [u8],
+    from: usize,
+    to: usize,
 ) -> usize
     requires { ⌜ Sized g × Tabled g (now profile) (now reaches) × (size g + size g ≤ length (now bytes)) × Marked g (now marks) ⌝ }
-    requires { ⌜ GoesDown sweep ⌝ }
-    ensures { λ r. ⌜ Swept sweep g (now (bytes .entry)) (now (bytes .exit)) r ⌝ }
+    requires { ⌜ (from ≤ to) × (to ≤ g .height) ⌝ }
+    ensures { λ r. ⌜ Raised 0 g from from to (now (bytes .entry)) (now (bytes .exit)) r ⌝ }
 {
-    let height = g.height;
+    let start = from * g.width;
+    run::copy_run(
+        bytes,
+        g.height * g.width + start,
+        start,
+        to * g.width - start,
+    );
     let mut count: usize = 0;
-    let mut row: usize = 0;
-    while row < height {
-        count += sweep_row(sweep, g, profile, reaches, marks, bytes, row);
-        row += 1;
+    let mut left = to;
+    while from < left {
+        left -= 1;
+        count += sweep_row(Sweep::Backward, g, profile, reaches, marks, bytes, left);
     }
     count
 }
@@ -63,18 +75,73 @@ pub fn backward(
     bytes: &mut [u8],
 ) -> usize
     requires { ⌜ Sized g × Tabled g (now profile) (now reaches) × (size g + size g ≤ length (now bytes)) × Marked g (now marks) ⌝ }
-    ensures { λ r. ⌜ Swept Sweep.Backward g (now (bytes .entry)) (now (bytes .exit)) r ⌝ }
+    ensures { λ r. ⌜ Raised 0 g 0 0 (g .height) (now (bytes .entry)) (now (bytes .exit)) r ⌝ }
 {
     let mut count: usize = 0;
     let mut left = g.height;
     while 0 < left {
-        left -= 1;
-        count += sweep_row(Sweep::Backward, g, profile, reaches, marks, bytes, left);
+        let from = left - walk::nearer(left, BAND);
+        count += backward_band(g, profile, reaches, marks, bytes, from, left);
+        left = from;
     }
     count
 }
 
-// The forward sweep: page A becomes its running extremes from the blocks' starts.
+// A row of the forward sweep, if the page has it.
+fn forward_next(
+    g: Grid,
+    profile: &[usize],
+    reaches: &[usize],
+    marks: &[u16],
+    bytes: &mut [u8],
+    row: usize,
+) -> usize
+    requires { ⌜ Sized g × Tabled g (now profile) (now reaches) × (size g + size g ≤ length (now bytes)) × Marked g (now marks) ⌝ }
+    ensures { λ r. ⌜ SweptIf (row < g .height) Sweep.Forward g row (now (bytes .entry)) (now (bytes .exit)) r ⌝ }
+{
+    if g.height <= row {
+        return 0;
+    }
+    sweep_row(Sweep::Forward, g, profile, reaches, marks, bytes, row)
+}
+
+// The results of the row that lies some rows behind, if the page has it.
+fn result_behind(
+    g: Grid,
+    profile: &[usize],
+    reaches: &[usize],
+    marks: &[u16],
+    bytes: &mut [u8],
+    row: usize,
+    behind: usize,
+) -> usize
+    requires { ⌜ Sized g × Tabled g (now profile) (now reaches) × (size g + size g ≤ length (now bytes)) × Marked g (now marks) ⌝ }
+    requires { ⌜ row < g .height + behind ⌝ }
+    ensures { λ r. ⌜ SweptIf (behind ≤ row) Sweep.Result g (row - behind) (now (bytes .entry)) (now (bytes .exit)) r ⌝ }
+{
+    if row < behind {
+        return 0;
+    }
+    sweep_row(
+        Sweep::Result,
+        g,
+        profile,
+        reaches,
+        marks,
+        bytes,
+        row - behind,
+    )
+}
+
+fn lag_of(g: Grid) -> usize
+    requires { ⌜ Sized g ⌝ }
+    ensures { λ r. ⌜ r ≡ lag g ⌝ }
+{
+    walk::nearer(walk::later(g.on, 1) * g.period, g.height)
+}
+
+// The forward sweep, and close behind it the results, while the rows they read are still in the cache: page A becomes the extremes over the
+// windows.
 pub fn forward(
     g: Grid,
     profile: &[usize],
@@ -83,26 +150,22 @@ pub fn forward(
     bytes: &mut [u8],
 ) -> usize
     requires { ⌜ Sized g × Tabled g (now profile) (now reaches) × (size g + size g ≤ length (now bytes)) × Marked g (now marks) ⌝ }
-    ensures { λ r. ⌜ Swept Sweep.Forward g (now (bytes .entry)) (now (bytes .exit)) r ⌝ }
+    ensures { λ r. ⌜ Lowered g (g .height) (g .height) (now (bytes .entry)) (now (bytes .exit)) r ⌝ }
 {
-    sweep_down(Sweep::Forward, g, profile, reaches, marks, bytes)
+    let behind = lag_of(g);
+    let end = g.height + behind;
+    let mut count: usize = 0;
+    let mut row: usize = 0;
+    while row < end {
+        let first = forward_next(g, profile, reaches, marks, bytes, row);
+        let second = result_behind(g, profile, reaches, marks, bytes, row, behind);
+        count += first + second;
+        row += 1;
+    }
+    count
 }
 
-// The sweep of the results: page A becomes the extremes over the windows, of the running extremes in A and B.
-pub fn result(
-    g: Grid,
-    profile: &[usize],
-    reaches: &[usize],
-    marks: &[u16],
-    bytes: &mut [u8],
-) -> usize
-    requires { ⌜ Sized g × Tabled g (now profile) (now reaches) × (size g + size g ≤ length (now bytes)) × Marked g (now marks) ⌝ }
-    ensures { λ r. ⌜ Swept Sweep.Result g (now (bytes .entry)) (now (bytes .exit)) r ⌝ }
-{
-    sweep_down(Sweep::Result, g, profile, reaches, marks, bytes)
-}
-
-// The three sweeps.
+// Both.
 fn sweep_all(
     g: Grid,
     profile: &[usize],
@@ -115,8 +178,7 @@ fn sweep_all(
 {
     let first = backward(g, profile, reaches, marks, bytes);
     let second = forward(g, profile, reaches, marks, bytes);
-    let third = result(g, profile, reaches, marks, bytes);
-    first + second + third
+    first + second
 }
 
 // One pass: page A becomes the extremes over the windows of its lines. It answers the comparisons.

@@ -101,7 +101,7 @@ fn compared_of(keeps: bool) -> u8
 }
 
 // A run of which those bytes are kept whose mark is the given one. A byte counts its comparisons, which is as wide as what is compared, so
-// that the compiler takes sixteen at once; hence at most 240.
+// that the compiler takes thirty-two at once; hence at most 224, seven times that.
 pub fn mark_run(
     low: bool,
     bytes: &mut [u8],
@@ -114,7 +114,7 @@ pub fn mark_run(
     n: usize,
 ) -> usize
     requires { ⌜ (to + n ≤ length (now bytes)) × (first + n ≤ length (now bytes)) × (second + n ≤ length (now bytes)) ⌝ }
-    requires { ⌜ Apart to first n × Apart to second n × (at + n ≤ length (now marks)) × (n ≤ 240) ⌝ }
+    requires { ⌜ Apart to first n × Apart to second n × (at + n ≤ length (now marks)) × (n ≤ 224) ⌝ }
     ensures { λ r. ⌜ ChosenUnless low (λ k. eqb (getD (now (marks .entry)) (at + k) 0) mark) to first second n (now (bytes .entry)) (now (bytes .exit)) × (r ≡ total (comparedOf (λ k. eqb (getD (now (marks .entry)) (at + k) 0) mark)) 0 n) ⌝ }
 {
     let mut count: u8 = 0;
@@ -140,7 +140,7 @@ pub fn mark_into(
     n: usize,
 ) -> usize
     requires { ⌜ (to + n ≤ length (now bytes)) × (second + n ≤ length (now bytes)) ⌝ }
-    requires { ⌜ Apart to second n × (at + n ≤ length (now marks)) × (n ≤ 240) ⌝ }
+    requires { ⌜ Apart to second n × (at + n ≤ length (now marks)) × (n ≤ 224) ⌝ }
     ensures { λ r. ⌜ ChosenUnless low (λ k. eqb (getD (now (marks .entry)) (at + k) 0) mark) to to second n (now (bytes .entry)) (now (bytes .exit)) × (r ≡ total (comparedOf (λ k. eqb (getD (now (marks .entry)) (at + k) 0) mark)) 0 n) ⌝ }
 {
     let mut count: u8 = 0;

@@ -79,7 +79,7 @@ fn choose_part(g: Grid, bytes: &mut [u8], row: usize, p: Plan, from: usize, to: 
     )
 }
 
-// At most 240 columns, each as its mark says.
+// At most 224 columns, each as its mark says.
 fn mark_part(
     g: Grid,
     marks: &[u16],
@@ -92,7 +92,7 @@ fn mark_part(
     mark: u16,
 ) -> usize
     requires { ⌜ Sized g × Planned g row p × (size g + size g ≤ length (now bytes)) ⌝ }
-    requires { ⌜ (p .lo ≤ from) × (from ≤ to) × (to ≤ p .hi) × (to ≤ from + 240) × (place + (to - from) ≤ length (now marks)) ⌝ }
+    requires { ⌜ (p .lo ≤ from) × (from ≤ to) × (to ≤ p .hi) × (to ≤ from + 224) × (place + (to - from) ≤ length (now marks)) ⌝ }
     ensures { λ r. ⌜ ChosenUnless (g .low) (λ k. eqb (getD (now (marks .entry)) (place + k) 0) mark) (p .to + (from - p .lo)) (p .first + (from - p .lo)) (p .second + (from - p .lo)) (to - from) (now (bytes .entry)) (now (bytes .exit)) × (r ≡ total (comparedOf (λ k. eqb (getD (now (marks .entry)) (place + k) 0) mark)) 0 (to - from)) ⌝ }
 {
     let at = from - p.lo;
@@ -142,7 +142,7 @@ fn side_part(
     let mut count: usize = 0;
     let mut x = p.lo;
     while x < mid {
-        let end = nearer(mid, x + 240);
+        let end = nearer(mid, x + 224);
         let place = x + g.height - drift;
         count += mark_part(g, marks, bytes, row, p, x, end, place, mark);
         x = end;

@@ -17,19 +17,19 @@ mul-size c =
 mul-own : tie.Need-mul-own
 mul-own c = record { fits = omega (arith, own-near _ _ _ _ _ (c .before .before .before .before .pre .0)) }
 
-add-t10 : tie.Need-add-t10
-add-t10 c =
-    let at = c .before .before .before .before .before .pre .0 in
+add-own : tie.Need-add-own
+add-own c =
+    let at = c .before .before .before .before .pre .0 in
     record { fits = omega (arith, product (at .sized .height-most) (at .sized .width-most), own-near _ _ _ _ _ at) }
 
-add-t11 : tie.Need-add-t11
-add-t11 c =
+add-t10 : tie.Need-add-t10
+add-t10 c =
     let pre = c .before .before .before .before .before .pre in
     let sized = pre .0 .sized in
     record { fits = omega (arith, product (sized .height-most) (sized .width-most), c .place-on .ensures, place-on-near _ _ _ _ _ (pre .0) 1 (pre .1)) }
 
-add-t12 : tie.Need-add-t12
-add-t12 c =
+add-t11 : tie.Need-add-t11
+add-t11 c =
     let at = c .before .before .before .before .before .pre .0 in
     record { fits = omega (arith, here _ _ _ _ _ at .step-below, at .sized .height-most) }
 
@@ -46,4 +46,4 @@ returns c =
     }
 
 pub backward-plan-spec : {M : Type 1} → statement M
-backward-plan-spec = tie.close (tie.spec mul-size mul-own (λ c κs. search needs) add-t10 add-t11 add-t12 returns)
+backward-plan-spec = tie.close (tie.spec mul-size mul-own add-own (λ c κs. search needs) add-t10 add-t11 returns)
