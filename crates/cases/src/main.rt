@@ -39,12 +39,12 @@ fn run(name: &[u8], bytes: [u8; 41], size: usize, source: &[u8], height: usize, 
     };
     let answer = filter::job::run(&bytes[..size], placements, source, output, &mut scratch);
     text::print_name(name);
-    if filter::job::is_done(answer) {
-        text::print_done(filter::report::work(answer), output);
+    if answer::report::is_done(answer) {
+        text::print_done(answer::report::work(answer), output);
     } else {
         text::print_refused(
-            filter::report::number(answer),
-            filter::report::place(answer),
+            answer::report::number(answer),
+            answer::report::place(answer),
         );
     }
 }

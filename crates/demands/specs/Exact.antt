@@ -23,7 +23,7 @@ use Rattle.tray.specs.declared.Placement.{Placement}
 use Rattle.filter.specs.Seen.{boxesOf, hidden, lineOf, runsSteep}
 use Rattle.filter.specs.Filters.{finished}
 use Rattle.filter.specs.Job.{Lengths, sourcePage, outputPage, answer, outputAfter}
-use Rattle.filter.specs.declared.Answer.the-variants.{Done}
+use Rattle.answer.specs.declared.Answer.the-variants.{Done}
 use Rattle.filter.specs.declared.Placements.{Placements}
 
 -- a pixel's place along the major axis, the columns of a shallow line and the rows of a steep one, and its place on the other axis

@@ -22,8 +22,8 @@ use Rattle.tray.specs.Written.{written}
 use Rattle.filter.specs.Seen.{boxesOf}
 use Rattle.filter.specs.Filters.{finished}
 use Rattle.filter.specs.Job.{Lengths, sourcePage, outputPage, unless, judgeBoxes, placed, answerUnder, answer, whenDone, lengths, outputAfter}
-use Rattle.filter.specs.declared.Answer.{Answer}
-use Rattle.filter.specs.declared.Answer.the-variants.{Done, BadSides, SourceTooShort, OutputTooShort, ScratchTooShort}
+use Rattle.answer.specs.declared.Answer.{Answer}
+use Rattle.answer.specs.declared.Answer.the-variants.{Done, BadSides, SourceTooShort, OutputTooShort, ScratchTooShort}
 use Rattle.filter.specs.declared.Placements.{Placements}
 use Rattle.demands.specs.Exact.{ExactJobReach, Matters}
 use Rattle.demands.specs.ExactProof.{exact-reach}

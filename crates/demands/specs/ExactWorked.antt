@@ -25,7 +25,7 @@ use Rattle.filter.specs.Seen.{hidden, boxesOf, lineOf, runsSteep}
 use Rattle.filter.specs.Filters.{dilationBack}
 use Rattle.filter.specs.Work.{charged, chargedAt, passWork, workOf}
 use Rattle.filter.specs.Job.{Lengths, sourcePage, outputPage, boxAllowed, unless, judgeBoxes, placed, answerUnder, answer}
-use Rattle.filter.specs.declared.Answer.the-variants.{Done}
+use Rattle.answer.specs.declared.Answer.the-variants.{Done}
 use Rattle.filter.specs.declared.Placements.{Placements}
 use Rattle.demands.specs.Exact.{Clear, JobMatters}
 use Rattle.demands.specs.ExactJob.{exact-job-reach}

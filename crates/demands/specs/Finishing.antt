@@ -18,12 +18,12 @@ use Rattle.tray.specs.Written.{written}
 use Rattle.tray.specs.Promises.{Placed}
 use Rattle.tray.specs.Laws as Laws
 use Rattle.filter.specs.Seen.{boxesOf}
-use Rattle.filter.specs.Answer.{numberOf, workIn}
+use Rattle.answer.specs.Answer.{numberOf, workIn}
 use Rattle.filter.specs.Filters.{finished}
 use Rattle.filter.specs.Work.{workOf}
 use Rattle.filter.specs.Job.{Lengths, sourcePage, outputPage, unless, judgeBoxes, placed, answerUnder, answer, whenDone, lengths, outputAfter}
-use Rattle.filter.specs.declared.Answer.{Answer}
-use Rattle.filter.specs.declared.Answer.the-variants.{Done, BadTicket, BadSides, SourceTooShort, OutputTooShort, ScratchTooShort, BadBox}
+use Rattle.answer.specs.declared.Answer.{Answer}
+use Rattle.answer.specs.declared.Answer.the-variants.{Done, BadTicket, BadSides, SourceTooShort, OutputTooShort, ScratchTooShort, BadBox}
 use Rattle.filter.specs.declared.Placements.{Placements}
 
 -- both pages lie in their trays, and the scratch is long enough

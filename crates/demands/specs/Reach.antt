@@ -12,7 +12,7 @@ use Rattle.ticket.specs.Reading.{shown}
 use Rattle.tray.specs.Placement.{byteOf, pixelIn}
 use Rattle.filter.specs.Seen.{boxesOf, hidden}
 use Rattle.filter.specs.Job.{sourcePage, outputPage, answer, lengths, outputAfter}
-use Rattle.filter.specs.declared.Answer.the-variants.{Done}
+use Rattle.answer.specs.declared.Answer.the-variants.{Done}
 use Rattle.filter.specs.declared.Placements.{Placements}
 use Rattle.demands.specs.Finishing.{finished-good, output-pixel}
 use Rattle.demands.specs.Same.{same-answer}

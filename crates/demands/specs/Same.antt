@@ -5,7 +5,7 @@ use mathlib.Core.Path.{_≡_, ap}
 use mathlib.Core.List.{List}
 use Prim.Native.Nat.{ℕ}
 use lib.ListN.{length}
-use Rattle.filter.specs.Answer.{numberOf, placeOf, workIn}
+use Rattle.answer.specs.Answer.{numberOf, placeOf, workIn}
 use Rattle.filter.specs.Job.{answer, lengths}
 use Rattle.filter.specs.declared.Placements.{Placements}
 

@@ -12,10 +12,10 @@ use Rattle.tray.specs.Placement.{byteOf, scratchNeeded}
 use Rattle.tray.specs.Written.{inside, written, cleared}
 use Rattle.tray.specs.Laws.{inside-pixel, written-outside, length-written, cleared-above, cleared-below, length-cleared}
 use Rattle.tray.specs.declared.Placement.{Placement}
-use Rattle.filter.specs.Answer.{numberOf, workIn}
+use Rattle.answer.specs.Answer.{numberOf, workIn}
 use Rattle.filter.specs.Filters.{finished}
 use Rattle.filter.specs.Job.{sourcePage, outputPage, answer, lengths, outputAfter, scratchAfter}
-use Rattle.filter.specs.declared.Answer.the-variants.{Done}
+use Rattle.answer.specs.declared.Answer.the-variants.{Done}
 use Rattle.filter.specs.declared.Placements.{Placements}
 use Rattle.demands.specs.Finishing.{finished-lies, when-done, when-refused, when-either, no-work}
 

@@ -23,13 +23,13 @@ use Rattle.tray.specs.Laws as Laws
 use Rattle.tray.specs.Promises.{Placed}
 use Rattle.tray.specs.Written.{written, cleared}
 use Rattle.filter.specs.Seen.{boxesOf}
-use Rattle.filter.specs.Answer.{isDone}
+use Rattle.answer.specs.Answer.{isDone}
 use Rattle.filter.specs.Filters.{finished}
 use Rattle.filter.specs.Work.{workOf}
 use Rattle.filter.specs.Job.{Lengths, lengths, sourcePage, outputPage, boxAllowed, unless, judgeBoxes, placed, answerUnder, answer, whenDone, outputAfter, scratchAfter}
 use Rattle.filter.specs.Engine.{BoxesLie, Fits, Finished, RanRead}
-use Rattle.filter.specs.declared.Answer.{Answer}
-use Rattle.filter.specs.declared.Answer.the-variants.{Done, BadTicket, BadSides, SourceTooShort, OutputTooShort, ScratchTooShort, BadBox}
+use Rattle.answer.specs.declared.Answer.{Answer}
+use Rattle.answer.specs.declared.Answer.the-variants.{Done, BadTicket, BadSides, SourceTooShort, OutputTooShort, ScratchTooShort, BadBox}
 use Rattle.filter.specs.declared.Placements.{Placements}
 use Rattle.filter.proofs.Both.{and-true}
 

@@ -24,9 +24,9 @@ use Rattle.tray.specs.Written.{columnOf, rowOf, inside, writtenFrom, written, c
 use Rattle.filter.specs.Seen.{covers, hidden, boxesOf, lineOf, seen, turned, runsSteep}
 use Rattle.filter.specs.Filters.{joined, extreme, valueAt, onLine, inWindow, passAt, pass, eroded, dilationBack, dilated, opened, closed, filtered, orWhite, finished}
 use Rattle.filter.specs.Work.{charged, chargedAt, passWork, workOf}
-use Rattle.filter.specs.Answer.{numberOf, placeOf, workIn}
+use Rattle.answer.specs.Answer.{numberOf, placeOf, workIn}
 use Rattle.filter.specs.Job.{sourcePage, outputPage, boxAllowed, unless, judgeBoxes, placed, answerUnder, answer, whenDone, lengths, outputAfter, scratchAfter}
-use Rattle.filter.specs.declared.Answer.{Answer}
+use Rattle.answer.specs.declared.Answer.{Answer}
 use Rattle.filter.specs.declared.Placements.{Placements}
 
 -- ---- tickets

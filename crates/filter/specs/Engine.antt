@@ -22,8 +22,8 @@ use Rattle.tray.specs.Turned.{acrossOf, downOf, compactAt}
 use Rattle.filter.specs.Seen.{boxesOf, lineOf, runsSteep, hidden, turned}
 use Rattle.filter.specs.Filters.{View, dilationBack, finished}
 use Rattle.filter.specs.Work.{workOf}
-use Rattle.filter.specs.declared.Answer.{Answer}
-use Rattle.filter.specs.declared.Answer.the-variants.{Done}
+use Rattle.answer.specs.declared.Answer.{Answer}
+use Rattle.answer.specs.declared.Answer.the-variants.{Done}
 use Rattle.filter.specs.declared.Placements.{Placements}
 use Rattle.filter.specs.Job.{boxAllowed, sourcePage, outputPage, lengths, placed, whenDone}
 

@@ -18,8 +18,8 @@ use Rattle.tray.specs.declared.Placement.{Placement}
 use Rattle.filter.specs.Seen.{boxesOf}
 use Rattle.filter.specs.Filters.{finished}
 use Rattle.filter.specs.Work.{workOf}
-use Rattle.filter.specs.declared.Answer.{Answer}
-use Rattle.filter.specs.declared.Answer.the-variants.{Done, BadTicket, BadSides, SourceTooShort, OutputTooShort, ScratchTooShort, BadBox}
+use Rattle.answer.specs.declared.Answer.{Answer}
+use Rattle.answer.specs.declared.Answer.the-variants.{Done, BadTicket, BadSides, SourceTooShort, OutputTooShort, ScratchTooShort, BadBox}
 use Rattle.filter.specs.declared.Placements.{Placements}
 
 -- "Source and output pages share w and h; each has its own offset and stride."

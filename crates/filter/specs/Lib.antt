@@ -1,7 +1,6 @@
 pub mod Seen
 pub mod Filters
 pub mod Work
-pub mod Answer
 pub mod Job
 pub mod Engine
 pub mod Cases

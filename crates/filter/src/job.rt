@@ -7,13 +7,13 @@ ghost use Rattle.tray.specs.Turned.{downOf};
 ghost use Rattle.tray.specs.Placement.{scratchNeeded};
 ghost use Rattle.tray.specs.Promises.{Placed};
 ghost use Rattle.filter.specs.Job.{outputPage, lengths, answer, outputAfter, scratchAfter};
-ghost use Rattle.filter.specs.Answer.{isDone};
 ghost use Rattle.filter.specs.Engine.{steepOf, Tables, Enters, Fits, Ready, GivenOut, Finished, RanRead};
-use super::Answer;
 use super::Placements;
 use super::filters;
 use super::hide::hide;
 use super::judge;
+use answer::Answer;
+use answer::report::is_done;
 use geometry::Line;
 use ticket::Ticket;
 use ticket::Verdict;
@@ -108,21 +108,6 @@ fn finish(t: Ticket, p: Placements, source: &[u8], output: &mut [u8], scratch: &
         &mut profile[..rows],
         &mut reaches[..rows],
     )
-}
-
-// Whether an answer is a finished page.
-pub fn is_done(a: Answer) -> bool
-    ensures { λ r. ⌜ r ≡ isDone a ⌝ }
-{
-    match a {
-        Answer::Done(_) => true,
-        Answer::BadTicket(_, _) => false,
-        Answer::BadSides => false,
-        Answer::SourceTooShort => false,
-        Answer::OutputTooShort => false,
-        Answer::ScratchTooShort => false,
-        Answer::BadBox(_) => false,
-    }
 }
 
 // The job of a ticket that was read.

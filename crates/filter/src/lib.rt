@@ -1,9 +1,8 @@
 // The job: a page of one tray filtered along lines into another.
 // The definitions stand in specs/: Seen (the page as the filter sees it), Filters (windows, erosion, dilation, opening, closing),
-// Work (comparisons), Answer (refusals, their numbers and places), Job (answer, output tray and scratch of a job), Cases (the worked cases).
+// Work (comparisons), Job (answer, output tray and scratch of a job), Cases (the worked cases). An answer has its own crate.
 //
 //     job      the job, with no condition on its callers: run
-//     report   an answer as three numbers
 //     judge    refusals 10 to 14
 //     filters  the four filters, of one pass or two, over the page in the scratch
 //     hide     boxes painted over the page in the scratch
@@ -11,7 +10,6 @@ mod filters;
 mod hide;
 pub mod job;
 mod judge;
-pub mod report;
 
 // Where a page stands in its tray: the byte of its corner, and how far apart its rows start.
 pub struct Spot {
@@ -25,15 +23,4 @@ pub struct Placements {
     pub height: usize,
     pub source: Spot,
     pub output: Spot,
-}
-
-// What a job answers: its work, or why it is refused. A box is named by its number.
-pub enum Answer {
-    Done(u64),
-    BadTicket(ticket::Fault, usize),
-    BadSides,
-    SourceTooShort,
-    OutputTooShort,
-    ScratchTooShort,
-    BadBox(usize),
 }

@@ -84,12 +84,12 @@ fn filter_page(
         },
     };
     let answer = filter::job::run(ticket, placements, source, output, scratch);
-    if filter::job::is_done(answer) {
-        text::print_done(filter::report::work(answer), output, w);
+    if answer::report::is_done(answer) {
+        text::print_done(answer::report::work(answer), output, w);
     } else {
         text::print_refused(
-            filter::report::number(answer),
-            filter::report::place(answer),
+            answer::report::number(answer),
+            answer::report::place(answer),
         );
     }
 }

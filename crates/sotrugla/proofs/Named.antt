@@ -2,9 +2,9 @@
 use mathlib.Core.Path.{_≡_, ap, _∙_, subst}
 use mathlib.Core.List.{List}
 use Prim.Native.Nat.{ℕ}
-use Rattle.filter.specs.Answer.{numberOf, placeOf, workIn}
+use Rattle.answer.specs.Answer.{numberOf, placeOf, workIn}
 use Rattle.filter.specs.Job.{Lengths, lengths, answer, outputAfter, scratchAfter}
-use Rattle.filter.specs.declared.Answer.{Answer}
+use Rattle.answer.specs.declared.Answer.{Answer}
 use Rattle.filter.specs.declared.Placements.{Placements}
 use Rattle.sotrugla.specs.Outcome.{outcomeOf}
 use Rattle.sotrugla.specs.declared.Outcome.{Outcome}

@@ -3,8 +3,8 @@
 use Prim.Native.Nat.{ℕ}
 use mathlib.Core.Bool.{_&&_, cond}
 use Rattle.tray.specs.Placement.{sideAllowed, scratchNeeded}
-use Rattle.filter.specs.Answer.{numberOf, placeOf, workIn}
-use Rattle.filter.specs.declared.Answer.{Answer}
+use Rattle.answer.specs.Answer.{numberOf, placeOf, workIn}
+use Rattle.answer.specs.declared.Answer.{Answer}
 use Rattle.filter.specs.declared.Placements.{Placements}
 use Rattle.sotrugla.specs.declared.Outcome.{Outcome}
 

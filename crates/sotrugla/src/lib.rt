@@ -75,9 +75,9 @@ pub extern "C" fn sotrugla_run(
     );
     let given = filter::job::run(ticket, at, source, output, scratch);
     Outcome {
-        refusal: filter::report::number(given) as u64,
-        place: filter::report::place(given) as u64,
-        work: filter::report::work(given),
+        refusal: answer::report::number(given) as u64,
+        place: answer::report::place(given) as u64,
+        work: answer::report::work(given),
     }
 }
 

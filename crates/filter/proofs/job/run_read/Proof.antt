@@ -2,7 +2,7 @@
 use mathlib.Core.Path.{sym, ap, _∙_}
 use borrow.Author.Needs.{needs}
 use borrow.Author.Tests.{not-true, not-false}
-use Rattle.filter.specs.Answer.{isDone}
+use Rattle.answer.specs.Answer.{isDone}
 use Rattle.filter.proofs.Judging.{fits-all, ran-refused, ran-done}
 use Rattle.filter.proofs.job.run_read.Statement.{statement}
 use Rattle.filter.proofs.job.run_read.Tie as tie

@@ -7,7 +7,7 @@ use borrow.Author.Tests.{not-true, not-false}
 use lib.ListN.{take, drop}
 use Rattle.ticket.specs.Reading.{noBox}
 use Rattle.filter.specs.Job.{judgeBoxes}
-use Rattle.filter.specs.declared.Answer.the-variants.{Done, BadBox}
+use Rattle.answer.specs.declared.Answer.the-variants.{Done, BadBox}
 use Rattle.filter.proofs.Judging.{own-default, box-judged, all-judged, unless-taken, unless-left}
 use Rattle.filter.proofs.judge.judge_boxes.Statement.{statement}
 use Rattle.filter.proofs.judge.judge_boxes.Tie as tie

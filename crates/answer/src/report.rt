@@ -1,6 +1,6 @@
 // An answer as three numbers: document 01's number of a refusal (0 for a finished page), its place, and the work.
 ghost use mathlib.Core.Path.{_≡_};
-ghost use Rattle.filter.specs.Answer.{numberOf, placeOf, workIn};
+ghost use Rattle.answer.specs.Answer.{numberOf, placeOf, workIn, isDone};
 use super::Answer;
 
 pub fn number(a: Answer) -> usize
@@ -42,5 +42,20 @@ pub fn work(a: Answer) -> u64
         Answer::OutputTooShort => 0,
         Answer::ScratchTooShort => 0,
         Answer::BadBox(_) => 0,
+    }
+}
+
+// Whether an answer is a finished page.
+pub fn is_done(a: Answer) -> bool
+    ensures { λ r. ⌜ r ≡ isDone a ⌝ }
+{
+    match a {
+        Answer::Done(_) => true,
+        Answer::BadTicket(_, _) => false,
+        Answer::BadSides => false,
+        Answer::SourceTooShort => false,
+        Answer::OutputTooShort => false,
+        Answer::ScratchTooShort => false,
+        Answer::BadBox(_) => false,
     }
 }

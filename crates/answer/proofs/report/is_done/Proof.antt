@@ -1,9 +1,9 @@
--- `filter::job::is_done` meets its contract, answer by answer. Assumes nothing.
+-- `answer::report::is_done` meets its contract, answer by answer. Assumes nothing.
 use mathlib.Core.Path.{refl}
 use borrow.Author.Needs.{needs}
-use Rattle.filter.specs.Answer.{isDone}
-use Rattle.filter.proofs.job.is_done.Statement.{statement}
-use Rattle.filter.proofs.job.is_done.Tie as tie
+use Rattle.answer.specs.Answer.{isDone}
+use Rattle.answer.proofs.report.is_done.Statement.{statement}
+use Rattle.answer.proofs.report.is_done.Tie as tie
 
 returns : tie.Need-returns
 unfolding isDone

@@ -1,44 +1,45 @@
--- `filter::report::place` meets its contract, answer by answer. Assumes nothing.
+-- `answer::report::number` meets its contract, answer by answer. Assumes nothing.
 use mathlib.Core.Path.{refl}
 use borrow.Author.Needs.{needs}
-use Rattle.filter.specs.Answer.{placeOf}
-use Rattle.filter.proofs.report.place.Statement.{statement}
-use Rattle.filter.proofs.report.place.Tie as tie
+use Rattle.answer.specs.Answer.{numberOf}
+use Rattle.answer.proofs.report.number.Statement.{statement}
+use Rattle.answer.proofs.report.number.Tie as tie
 
 returns : tie.Need-returns
-unfolding placeOf
+unfolding numberOf
 returns c = rw (c .enum-told .given .1) refl
 
 returns-2 : tie.Need-returns-2
-unfolding placeOf
-returns-2 c = rw (c .before .a .given .1) refl
+unfolding numberOf
+returns-2 c = rw (c .before .before .a .given .1) (c .fault-number .ensures)
 
 returns-3 : tie.Need-returns-3
-unfolding placeOf
+unfolding numberOf
 returns-3 c = rw (c .enum-told2 .given .1) refl
 
 returns-4 : tie.Need-returns-4
-unfolding placeOf
+unfolding numberOf
 returns-4 c = rw (c .enum-told3 .given .1) refl
 
 returns-5 : tie.Need-returns-5
-unfolding placeOf
+unfolding numberOf
 returns-5 c = rw (c .enum-told4 .given .1) refl
 
 returns-6 : tie.Need-returns-6
-unfolding placeOf
+unfolding numberOf
 returns-6 c = rw (c .enum-told5 .given .1) refl
 
 returns-7 : tie.Need-returns-7
-unfolding placeOf
-returns-7 c = rw (c .before .a2 .given .1) refl
+unfolding numberOf
+returns-7 c = rw (c .enum-told6 .given .1) refl
 
-pub place-spec : {M : Type 1} → statement M
-place-spec =
+pub number-spec : {M : Type 1} → statement M
+number-spec =
     tie.close
     (tie.spec
     (λ c. search needs)
     (λ c. search needs)
+    (λ c κs. search needs)
     (λ c. search needs)
     (λ c. search needs)
     (λ c. search needs)

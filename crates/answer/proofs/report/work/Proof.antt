@@ -1,9 +1,9 @@
--- `filter::report::work` meets its contract, answer by answer. Assumes nothing.
+-- `answer::report::work` meets its contract, answer by answer. Assumes nothing.
 use mathlib.Core.Path.{refl}
 use borrow.Author.Needs.{needs}
-use Rattle.filter.specs.Answer.{workIn}
-use Rattle.filter.proofs.report.work.Statement.{statement}
-use Rattle.filter.proofs.report.work.Tie as tie
+use Rattle.answer.specs.Answer.{workIn}
+use Rattle.answer.proofs.report.work.Statement.{statement}
+use Rattle.answer.proofs.report.work.Tie as tie
 
 returns : tie.Need-returns
 unfolding workIn
