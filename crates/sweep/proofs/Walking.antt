@@ -98,7 +98,7 @@ module _ (g : Grid) (profile reaches : List ℕ) (R t : ℕ) (at : Row g profile
   inside y l h = eqb-mod (g .length) (entryAt g R y) (p .top) long (planned .entered y l h)
 
   -- where its line entered from the side, a pixel's mark says it
-  pub side-keeps : (marks : List ℕ) (y place : ℕ) → Marked g marks → p .lo ≤ y → y < p .hi → y < drift (g .line) t → place ≡ y + g .height - drift (g .line) t
+  side-keeps : (marks : List ℕ) (y place : ℕ) → Marked g marks → p .lo ≤ y → y < p .hi → y < drift (g .line) t → place ≡ y + g .height - drift (g .line) t
       → eqb (getD marks place 0) (p .top % g .length) ≡ eqb (inBlock g R p y) 0
   unfolding entryAt
   side-keeps marks y place marked l h side is =
@@ -107,6 +107,21 @@ module _ (g : Grid) (profile reaches : List ℕ) (R t : ℕ) (at : Row g profile
       let read : getD marks place 0 ≡ reach (g .line) v (g .height) % g .length = ap (λ (i : ℕ). getD marks i 0) (omega arith) ∙ marked .mark-is v (omega arith) (omega arith) in
       let entered : reach (g .line) v (g .height) ≡ entryAt g R y = sym (at .tabled .reaches-is v (omega arith)) ∙ entry-reach g profile reaches R t y (pixel g profile reaches R t at y (omega (arith, planned .columns))) side in
       ap (λ (q : ℕ). eqb q (p .top % g .length)) (read ∙ ap (λ (q : ℕ). q % g .length) entered) ∙ inside y l h
+
+  -- the spare marks say it of some that entered in the first row
+  spare-keeps : (marks : List ℕ) (y place : ℕ) → Marked g marks → p .lo ≤ y → y < p .hi → drift (g .line) t ≤ y → y < drift (g .line) t + 32 → place ≡ y + g .height - drift (g .line) t
+      → eqb (getD marks place 0) (p .top % g .length) ≡ eqb (inBlock g R p y) 0
+  unfolding entryAt
+  spare-keeps marks y place marked l h reached near is =
+      let read : getD marks place 0 ≡ 0 = ap (λ (i : ℕ). getD marks i 0) (omega arith) ∙ marked .zero-is (y - drift (g .line) t) (omega arith) in
+      let none : 0 ≡ entryAt g R y = entry-zero g profile reaches R t y (pixel g profile reaches R t at y (omega (arith, planned .columns))) reached in
+      let zero : 0 % g .length ≡ 0 = mod-eq-of-lt long in
+      ap (λ (q : ℕ). eqb q (p .top % g .length)) (read ∙ sym zero ∙ ap (λ (q : ℕ). q % g .length) none) ∙ inside y l h
+
+  pub mark-keeps : (marks : List ℕ) (y place : ℕ) → Marked g marks → p .lo ≤ y → y < p .hi → y < drift (g .line) t + 32 → place ≡ y + g .height - drift (g .line) t
+      → eqb (getD marks place 0) (p .top % g .length) ≡ eqb (inBlock g R p y) 0
+  mark-keeps marks y place marked l h near is =
+      by-cases (decLt y (drift (g .line) t)) (λ side. side-keeps marks y place marked l h side is) (λ top. spare-keeps marks y place marked l h (omega arith) near is)
 
   -- where it entered in the first row, all are alike
   pub top-keeps : (y : ℕ) → p .lo ≤ y → y < p .hi → drift (g .line) t ≤ y → eqb (p .top % g .length) 0 ≡ eqb (inBlock g R p y) 0

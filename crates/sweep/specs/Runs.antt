@@ -89,9 +89,11 @@ pub record PastLine (g : Grid) (R t mid : ℕ) : Type 0 where
   pub entered : mid < g .width → drift (g .line) t ≤ mid
   pub past : (y : ℕ) → mid ≤ y → y < g .width → OnPage g (startRow g R) (lineName g R y) (t + g .on) → ⊥
 
--- the marks: for lines that have drifted v places when they enter, their entry's place in a block, the last v first
+-- the marks: for lines that have drifted v places when they enter, their entry's place in a block, the last v first; and behind them
+-- some of the lines that enter in the first row, whose entry's place is 0
 pub record Marked (g : Grid) (marks : List ℕ) : Type 0 where
-  pub long : g .height ≤ length marks
+  pub long : g .height + 32 ≤ length marks
+  pub zero-is : (j : ℕ) → j < 32 → getD marks (g .height + j) 0 ≡ 0
   pub mark-is : (v : ℕ) → 1 ≤ v → v < g .height → getD marks (g .height - v) 0 ≡ reach (g .line) v (g .height) % g .length
 
 -- how far the line of a pixel is from its block's first step, for lines cut from step `top` downwards

@@ -121,7 +121,7 @@ fn mark_part(
     )
 }
 
-// The columns up to mid, whose lines entered from the side.
+// The columns up to mid, by their marks: those whose lines entered from the side, and a few right of them.
 fn side_part(
     g: Grid,
     profile: &[usize],
@@ -134,7 +134,7 @@ fn side_part(
     mid: usize,
 ) -> usize
     requires { ⌜ Row g (now profile) (now reaches) row step × Planned g row p × (size g + size g ≤ length (now bytes)) ⌝ }
-    requires { ⌜ Marked g (now marks) × (p .lo ≤ mid) × (mid ≤ p .hi) × (mid ≤ max (p .lo) (drift (g .line) step)) ⌝ }
+    requires { ⌜ Marked g (now marks) × (p .lo ≤ mid) × (mid ≤ p .hi) × (p .lo < mid → mid ≤ drift (g .line) step + 31) ⌝ }
     ensures { λ r. ⌜ Walked g row p mid (now (bytes .entry)) (now (bytes .exit)) r ⌝ }
 {
     let drift = step::entry_of(profile, step);
@@ -148,6 +148,14 @@ fn side_part(
         x = end;
     }
     count
+}
+
+// Columns from lo on, up to mid or a little further, that are taken thirty-two at a time: the compiler goes one by one over what is left.
+fn rounded(lo: usize, mid: usize) -> usize
+    requires { ⌜ (lo ≤ mid) × (mid ≤ 16384) ⌝ }
+    ensures { λ r. ⌜ (mid ≤ r) × (r ≤ mid + 31) × (mid ≤ lo → r ≤ lo) ⌝ }
+{
+    lo + (mid - lo + 31) / 32 * 32
 }
 
 // The columns from mid on, whose lines entered in the page's first row: all are as far into their blocks.
@@ -177,7 +185,8 @@ pub fn walk(
     requires { ⌜ Marked g (now marks) ⌝ }
     ensures { λ r. ⌜ Walked g row p (p .hi) (now (bytes .entry)) (now (bytes .exit)) r ⌝ }
 {
-    let mid = nearer(later(p.lo, step::entry_of(profile, step)), p.hi);
+    let drifted = later(p.lo, step::entry_of(profile, step));
+    let mid = nearer(rounded(p.lo, drifted), p.hi);
     let side = side_part(g, profile, reaches, marks, bytes, row, step, p, mid);
     let top = top_part(g, bytes, row, p, mid);
     side + top

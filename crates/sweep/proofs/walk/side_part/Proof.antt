@@ -12,7 +12,7 @@ use Rattle.sweep.specs.Runs.{Walked}
 use Rattle.sweep.specs.declared.Grid.{Grid}
 use Rattle.sweep.proofs.Planning.{here}
 use Rattle.sweep.proofs.Running.{compared-few}
-use Rattle.sweep.proofs.Walking.{step-below, side-keeps, walked-none, walked-few, walked-more}
+use Rattle.sweep.proofs.Walking.{step-below, mark-keeps, walked-none, walked-few, walked-more}
 use Rattle.sweep.proofs.walk.side_part.Statement.{statement}
 use Rattle.sweep.proofs.walk.side_part.Tie as tie
 
@@ -78,7 +78,7 @@ mark-part-requires c κs =
     let side = start .pre .1 .3 in
     let low = here _ _ _ _ _ at .drift-below in (
       (at .sized, planned, omega (arith, start .pre .0 .2, l .inv .2 .kept .same-length)),
-      (l .inv .0, omega (arith, end, below), omega (arith, end, most), omega (arith, end), omega (arith, end, below, side, drifted, low, l .inv .0, start .pre .1 .0 .long)),
+      (l .inv .0, omega (arith, end, below), omega (arith, end, most), omega (arith, end), omega (arith, end, below, side (omega (arith, l .inv .0, below)), drifted, low, l .inv .0, start .pre .1 .0 .long)),
     )
 
 add-count : tie.Need-add-count Inv-loop μ-loop
@@ -114,7 +114,7 @@ loop-again c =
       omega (arith, l .inv .0, end, below),
       omega (arith, end),
       walked-more (a .g) (a .row) (a .p) (a .bytes .now) (l .bytes) _ (l .x) _ (l .count) (l .inv .0) (omega (arith, end, below)) (omega (arith, end, most)) planned (l .inv .2) keeps (made .0)
-          (λ y from to. side-keeps _ _ _ _ _ at (a .p) planned (a .marks .now) y _ (start .pre .1 .0) (omega (arith, l .inv .0)) (omega (arith, end, most)) (omega (arith, end, side, l .inv .0)) (omega (arith, drifted, low)))
+          (λ y from to. mark-keeps _ _ _ _ _ at (a .p) planned (a .marks .now) y _ (start .pre .1 .0) (omega (arith, l .inv .0)) (omega (arith, end, most)) (omega (arith, end, side (omega (arith, l .inv .0, below)), l .inv .0)) (omega (arith, drifted, low)))
           _ (made .1),
     )
 
