@@ -13,7 +13,7 @@ use borrow.Author.Tests.{eq-eqb, ne-eqb}
 use Rattle.geometry.specs.Line.{period, stepOf}
 use Rattle.sweep.specs.Span.{chosen}
 use Rattle.sweep.specs.Block.{fromStart, toEnd, windowed, rightward, leftward, resulting}
-use Rattle.sweep.specs.BlockLaws.{fromStart-first, fromStart-next, toEnd-last, toEnd-next, result-whole, result-across, result-cut, result-short, result-early, result-all}
+use Rattle.sweep.specs.BlockLaws.{fromStart-first, fromStart-next, toEnd-last, toEnd-next, result-whole, result-block, result-across, result-cut, result-short, result-early, result-all}
 use Rattle.sweep.specs.Grid.{Page, Pixel, startRow, lineName, entry, leave, steps, rowAt, columnAt, along, number, lineSteps, toEndAt, fromStartAt, windowedAt, rightwardAt, leftwardAt, resultingAt}
 use Rattle.sweep.specs.GridLaws.{OnPage, on-line, on-page, own-step, start-small, row-again, column-again, number-is, number-below, page-on, toEnd-on, fromStart-on}
 use Rattle.sweep.specs.declared.Grid.{Grid}
@@ -174,6 +174,16 @@ module _ (g : Grid) (profile reaches : List ℕ) (R t x : ℕ) (at : Pixel g pro
     made-whole f e =
         let r = result-whole (g .length) (lineSteps g R x) (g .back) (g .on) first (at .sized .length-is) (g .low) (along g f u z) fits e in
         moved f _ _ (r .0 ∙ rest f, r .1)
+
+    -- where such a window ends in the line, the extreme from its block's start is all of it
+    pub made-block : (f : Page) → first % g .length ≡ 0 → OnPage g u z (t + g .on)
+        → (fromStartAt g f (rowAt g u (t + g .on)) (columnAt g z (t + g .on)) ≡ windowedAt g f R x) × (0 ≡ resultingAt g R x)
+    made-block f e ends =
+        let far : t + g .on - entry g z < lineSteps g R x = counted (t + g .on) ends in
+        let last : t + g .on - entry g z ≡ first + g .back + g .on = omega (arith, numbered) in
+        let r = result-block (g .length) (lineSteps g R x) (g .back) (g .on) first (at .sized .length-is) (g .low) (along g f u z) fits e (omega arith) in
+        let whole = result-whole (g .length) (lineSteps g R x) (g .back) (g .on) first (at .sized .length-is) (g .low) (along g f u z) fits e in
+        moved f _ _ (r ∙ ap (fromStart (g .low) (g .length) (along g f u z)) (sym last) ∙ sym (fromStart-on g (at .sized) u z (t + g .on) small ends f), whole .1)
 
     module _ (inside : 0 < first % g .length) where
       -- where the window ends in the line, the next block gives the rest

@@ -6,7 +6,7 @@ use Prim.Native.Nat.{ℕ, suc, _+_, _-_, _*_, _%_, _≤_, _<_, min, zero-le}
 use native.Mathlib.Nat.{mul-le-mul-right, suc-mul}
 use native.Mathlib.Omega.{arith}
 use lib.ListN.{getD}
-use Rattle.sweep.specs.Span.{chosen}
+use Rattle.sweep.specs.Span.{chosen, chosen-comm}
 use Rattle.sweep.specs.Grid.{startRow, lineName, number, spot}
 use Rattle.sweep.specs.GridLaws.{OnPage, row-fits}
 use Rattle.sweep.specs.Sweeps.{Ready, PartDone, target, newAt, costAt, size, windowRows}
@@ -14,7 +14,7 @@ use Rattle.sweep.specs.Runs.{Row, EdgeAt, FarEdge, Copied, placeOn, entr
 use Rattle.sweep.specs.declared.Grid.{Grid}
 use Rattle.sweep.specs.declared.Plan.{Plan}
 use Rattle.sweep.specs.declared.Sweep.the-variants.{Result}
-use Rattle.sweep.proofs.Making.{small, start, made-whole, made-across, made-early}
+use Rattle.sweep.proofs.Making.{small, start, made-block, made-across, made-early}
 use Rattle.sweep.proofs.Reading.{read-B, read-on}
 use Rattle.sweep.proofs.Planning.{pixel}
 use Rattle.sweep.proofs.Places.{from-entry, spot-ahead, spot-behind, row-end, far-fits, far-on}
@@ -65,8 +65,8 @@ module _ (g : Grid) (profile reaches : List ℕ) (R t : ℕ) (at : Row g profile
           to-fits = omega (arith, plan .lo-is, plan .hi-is, plan .to-is);
           first-fits = omega (arith, plan .lo-is, plan .hi-is, plan .first-is);
           second-fits = omega (arith, plan .lo-is, plan .hi-is, plan .second-is);
-          first-apart = inl (omega (arith, plan .to-is, plan .first-is));
-          second-apart = inl (omega (arith, plan .to-is, plan .second-is, far-on g profile reaches R t at (g .on)));
+          first-apart = inl (omega (arith, plan .to-is, plan .first-is, far-on g profile reaches R t at (g .on)));
+          second-apart = inl (omega (arith, plan .to-is, plan .second-is));
           entered = λ y l h. omega (arith, plan .top-is, entered-by y (omega (arith, plan .lo-is)) (omega (arith, plan .hi-is)));
         }
 
@@ -90,16 +90,22 @@ module _ (g : Grid) (profile reaches : List ℕ) (R t : ℕ) (at : Row g profile
           let sum : place + (y - p .lo) ≡ size g + ((R - g .back * g .period) * g .width + (y - lo)) = omega (arith, plan .lo-is) in
           sum ∙ ap (λ (q : ℕ). size g + q) (spot-behind g profile reaches R t at y column (g .back) lo back-most lost l there)
 
+      ahead : (place : ℕ) → place ≡ placeOn g R t (g .on) + lo → place + (y - p .lo) ≡ spot g (startRow g R) (lineName g R y) (t + g .on)
+      ahead place is =
+          let sum : place + (y - p .lo) ≡ placeOn g R t (g .on) + y = omega (arith, plan .lo-is) in
+          sum ∙ spot-ahead g profile reaches R t at y column (g .on) (far .left y h)
+
       lane : inBlock g R p y ≡ 0 → Free Result g R old (getD old (p .first + (y - p .lo)) 0) y
-      unfolding Ready newAt costAt
+      unfolding Ready newAt costAt windowRows
       lane e =
           let here = pixel g profile reaches R t at y column in
+          let end = far .left y h in
           let first : (number g R y - g .back) % g .length ≡ 0 = sym in-number ∙ e in (
             λ f ready.
-                ap (λ (i : ℕ). getD old i 0) (behind (p .first) (plan .first-is))
-                ∙ read-B g profile reaches R t y here old _ 0 (g .height) (t - g .back) there zero-le (row-fits g (at .sized) _ _ _ (small g profile reaches R t y here) there) (ready .2)
-                ∙ made-whole g profile reaches R t y here reached f first .0,
-            made-whole g profile reaches R t y here reached (λ R x. 0) first .1,
+                ap (λ (i : ℕ). getD old i 0) (ahead (p .first) (plan .first-is))
+                ∙ read-on g profile reaches R t y here old _ (g .on) end (ready .0) (ready .1)
+                ∙ made-block g profile reaches R t y here reached f first end .0,
+            made-block g profile reaches R t y here reached (λ R x. 0) first end .1,
           )
 
       run : 0 < inBlock g R p y → Charged Result g R old (chosen (g .low) (getD old (p .first + (y - p .lo)) 0) (getD old (p .second + (y - p .lo)) 0)) y
@@ -107,15 +113,13 @@ module _ (g : Grid) (profile reaches : List ℕ) (R t : ℕ) (at : Row g profile
       run goes =
           let here = pixel g profile reaches R t at y column in
           let going : 0 < (number g R y - g .back) % g .length = omega (arith, in-number) in
-          let end = far .left y h in
-          let place : p .second + (y - p .lo) ≡ spot g (startRow g R) (lineName g R y) (t + g .on) =
-          let sum : p .second + (y - p .lo) ≡ placeOn g R t (g .on) + y = omega (arith, plan .second-is, plan .lo-is) in
-          sum ∙ spot-ahead g profile reaches R t at y column (g .on) end in (
+          let end = far .left y h in (
             λ f ready.
-                ap₂ (chosen (g .low))
-                (ap (λ (i : ℕ). getD old i 0) (behind (p .first) (plan .first-is))
+                chosen-comm (g .low) (getD old (p .first + (y - p .lo)) 0) (getD old (p .second + (y - p .lo)) 0)
+                ∙ ap₂ (chosen (g .low))
+                (ap (λ (i : ℕ). getD old i 0) (behind (p .second) (plan .second-is))
                 ∙ read-B g profile reaches R t y here old _ 0 (g .height) (t - g .back) there zero-le (row-fits g (at .sized) _ _ _ (small g profile reaches R t y here) there) (ready .2))
-                (ap (λ (i : ℕ). getD old i 0) place ∙ read-on g profile reaches R t y here old _ (g .on) end (ready .0) (ready .1))
+                (ap (λ (i : ℕ). getD old i 0) (ahead (p .first) (plan .first-is)) ∙ read-on g profile reaches R t y here old _ (g .on) end (ready .0) (ready .1))
                 ∙ made-across g profile reaches R t y here reached going f end .0,
             made-across g profile reaches R t y here reached going (λ R x. 0) end .1,
           )

@@ -5,7 +5,7 @@ use mathlib.Core.Path.{_≡_, refl, sym, ap, _∙_}
 use mathlib.Core.Bool.{Bool, true, false, _||_, cond}
 use mathlib.Core.Logic.{_⊎_, inl, inr, ⊎-elim, by-cases}
 use Prim.Native.Nat.{ℕ, zero, suc, _+_, _-_, _*_, _/_, _%_, _≤_, _<_, min}
-use native.Mathlib.Nat.{suc-mod, mod-self, mod-eq-of-lt, mod-lt, mod-le, add-mod-right, mul-add-div, div-add-mod, div-eq-of-lt, div-eq-sub-div, add-sub-cancel, add-assoc, mul-mod-right}
+use native.Mathlib.Nat.{suc-mod, mod-self, mod-eq-of-lt, mod-lt, mod-le, add-mod-right, mod-add-mod, mul-add-div, div-add-mod, div-eq-of-lt, div-eq-sub-div, add-sub-cancel, add-assoc, zero-add, mul-mod-right}
 use native.Mathlib.Decide.{decLt}
 use native.Mathlib.Omega.{arith}
 use lib.Dec.{eqb}
@@ -116,6 +116,16 @@ module _ (L n a b s : ℕ) (whole : L ≡ suc (a + b)) where
           ap (λ (i : ℕ). span low f i (min (s + a + b) (n - 1))) (add-sub-cancel s a) ∙ ap (span low f s) e,
           cost-none (min (s + a + b) (n - 1) - s) d (omega arith),
         )
+
+    -- and what is from its start is all of it
+    pub result-block : s % L ≡ 0 → s + a + b < n → windowed low n a b f (s + a) ≡ fromStart low L f (s + a + b)
+    unfolding windowed fromStart blockStart
+    result-block z on =
+        let h : 0 < L = omega arith in
+        let last : min (s + a + b) (n - 1) ≡ s + a + b = omega arith in
+        let far : (s + a + b) % L ≡ a + b = ap (λ (i : ℕ). i % L) (add-assoc s a b) ∙ sym (mod-add-mod s L (a + b)) ∙ ap (λ (i : ℕ). (i + (a + b)) % L) z ∙ ap (λ (i : ℕ). i % L) (zero-add (a + b)) ∙ mod-eq-of-lt (omega arith) in
+        let begins : s ≡ s + a + b - (s + a + b) % L = omega arith in
+        ap (λ (i : ℕ). span low f i (min (s + a + b) (n - 1))) (add-sub-cancel s a) ∙ ap (span low f s) last ∙ ap (λ (i : ℕ). span low f i (s + a + b)) begins
 
     -- one that crosses into the next block: the rest of its block, and what the next has up to its end
     pub result-across : 0 < s % L → s + a + b < n

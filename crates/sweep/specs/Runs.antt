@@ -144,11 +144,12 @@ pub record BackwardPlan (g : Grid) (R t hi : ℕ) (p : Plan) : Type 0 where
   pub second-is : p .second ≡ size g + placeOn g R t 1
   pub top-is : p .top ≡ suc t
 
--- the windows that begin and end in their line: from the window's first pixel to its block's end, and from the last one's block's start
+-- the windows that begin and end in their line: from the block's start of the window's last pixel, and from its first pixel to its block's
+-- end; a window that is a block has either alone
 pub record ResultPlan (g : Grid) (R t lo hi : ℕ) (p : Plan) : Type 0 where
   pub lo-is : p .lo ≡ lo
   pub hi-is : p .hi ≡ hi
   pub to-is : p .to ≡ R * g .width + lo
-  pub first-is : p .first ≡ size g + (R - g .back * g .period) * g .width
-  pub second-is : p .second ≡ placeOn g R t (g .on) + lo
+  pub first-is : p .first ≡ placeOn g R t (g .on) + lo
+  pub second-is : p .second ≡ size g + (R - g .back * g .period) * g .width
   pub top-is : p .top ≡ t - g .back

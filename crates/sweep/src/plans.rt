@@ -84,6 +84,7 @@ pub fn backward_plan(
     }
 }
 
+// Where windows reach no step on, their last pixel is the one that is written: it comes first, so that the row is made in place.
 pub fn result_plan(
     g: Grid,
     profile: &[usize],
@@ -105,8 +106,8 @@ pub fn result_plan(
         lo: lo,
         hi: hi,
         to: row * width + lo,
-        first: start,
-        second: end + lo,
+        first: end + lo,
+        second: start,
         top: step - g.back,
     }
 }

@@ -20,10 +20,14 @@ pub fn chosen_of(low: bool, a: u8, b: u8) -> u8
     }
 }
 
+// A run that stands where it is to be needs no copy.
 pub fn copy_run(bytes: &mut [u8], to: usize, from: usize, n: usize)
     requires { ⌜ (to + n ≤ length (now bytes)) × (from + n ≤ length (now bytes)) × Apart to from n ⌝ }
     ensures { λ _. ⌜ Copied to from n (now (bytes .entry)) (now (bytes .exit)) ⌝ }
 {
+    if to == from {
+        return;
+    }
     let mut k: usize = 0;
     while k < n {
         bytes[to + k] = bytes[from + k];

@@ -46,15 +46,12 @@ pub fn edge(
     nearer(column, hi)
 }
 
-// The columns from one up to another, whose lines are all at a block's first step: the first run is copied, unless it stands there.
+// The columns from one up to another, whose lines are all at a block's first step: the first run is copied.
 fn copy_part(g: Grid, bytes: &mut [u8], row: usize, p: Plan, from: usize, to: usize)
     requires { ⌜ Sized g × Planned g row p × (size g + size g ≤ length (now bytes)) ⌝ }
     requires { ⌜ (p .lo ≤ from) × (from ≤ to) × (to ≤ p .hi) ⌝ }
     ensures { λ _. ⌜ Copied (p .to + (from - p .lo)) (p .first + (from - p .lo)) (to - from) (now (bytes .entry)) (now (bytes .exit)) ⌝ }
 {
-    if p.first == p.to {
-        return;
-    }
     let at = from - p.lo;
     run::copy_run(bytes, p.to + at, p.first + at, to - from);
 }

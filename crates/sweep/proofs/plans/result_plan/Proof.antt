@@ -59,8 +59,8 @@ returns c =
       lo-is = refl;
       hi-is = refl;
       to-is = refl;
-      first-is = refl;
-      second-is = ap (λ (q : ℕ). q + c .before .before .before .before .before .before .args .lo) (c .before .place-on .ensures);
+      first-is = ap (λ (q : ℕ). q + c .before .before .before .before .before .before .args .lo) (c .before .place-on .ensures);
+      second-is = refl;
       top-is = refl;
     }
 

@@ -1,9 +1,10 @@
 -- `sweep::run::copy_run` meets its contract: the first k bytes are copied. Assumes nothing.
-use mathlib.Core.Path.{_≡_, subst}
-use Prim.Native.Nat.{ℕ, _-_, _≤_}
+use mathlib.Core.Path.{_≡_, ap, subst}
+use Prim.Native.Nat.{ℕ, _+_, _-_, _≤_}
 use native.Mathlib.Omega.{arith}
+use lib.ListN.{getD}
 use Rattle.sweep.specs.Runs.{Copied}
-use Rattle.sweep.proofs.Running.{filled-none, filled-more, unread}
+use Rattle.sweep.proofs.Running.{filled-own, filled-none, filled-more, unread}
 use Rattle.sweep.proofs.run.copy_run.Statement.{statement}
 use Rattle.sweep.proofs.run.copy_run.Tie as tie
 
@@ -12,6 +13,11 @@ Inv-loop bytes₀ to from n k₀ bytes k = (k ≤ n) × Copied to from k bytes�
 
 abbrev μ-loop : tie.MeasureT-loop
 μ-loop bytes₀ to from n k₀ bytes k = n - k
+
+returns : tie.Need-returns Inv-loop μ-loop
+returns c =
+    let a = c .before .args in
+    filled-own _ _ _ _ (λ k h. ap (λ (q : ℕ). getD (a .bytes .now) (q + k) 0) (c .if1 .taken))
 
 loop-holds : tie.Need-loop-holds Inv-loop μ-loop
 loop-holds c = (omega arith, filled-none _ _ _)
@@ -36,7 +42,7 @@ loop-less c = omega arith
 
 loop-again : tie.Need-loop-again Inv-loop μ-loop
 loop-again c =
-    let start = c .before .before .before in
+    let start = c .before .before .before .before in
     let l = c .before .before .loop in (
       omega arith,
       filled-more (start .args .to) (l .k) _ _ (l .bytes) (l .inv .1) _ (omega (arith, l .inv .1 .kept .same-length)) (unread _ (l .k) _ _ (l .bytes) (l .inv .1) (start .args .from) (start .args .n) (start .pre .2) (omega arith)),
@@ -45,9 +51,9 @@ loop-again c =
 same-length : tie.Need-same-length Inv-loop μ-loop
 same-length c = c .before .loop .inv .1 .kept .same-length
 
-returns : tie.Need-returns Inv-loop μ-loop
-returns c =
-    let a = c .before .before .args in
+returns-2 : tie.Need-returns-2 Inv-loop μ-loop
+returns-2 c =
+    let a = c .before .before .before .args in
     let l = c .before .loop in
     let e : l .k ≡ a .n = omega arith in
     subst (λ (n : ℕ). Copied (a .to) (a .from) n (a .bytes .now) (l .bytes)) e (l .inv .1)
@@ -58,6 +64,7 @@ copy-run-spec =
     (tie.spec
     Inv-loop
     μ-loop
+    returns
     loop-holds
     add-bytes
     slice-read-bytes
@@ -67,4 +74,4 @@ copy-run-spec =
     loop-less
     loop-again
     same-length
-    returns)
+    returns-2)
