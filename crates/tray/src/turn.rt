@@ -1,10 +1,10 @@
 // A page taken in and laid out compactly for the filter, and given out again: row by row where its lines are steep, transposed where they
-// are shallow, and mirrored where they fall. A row is read as a part of its tray and written through a part that is lent; only tiles are
-// moved between the trays themselves.
+// are shallow, and mirrored where they fall. Every row is read as a part of its tray, and written through a part that is lent.
 use crate::Placement;
 use crate::place::row_start;
 use crate::row::fill_row;
 use crate::row::row;
+use crate::row::row_from;
 use crate::tile::SIDE;
 use crate::tile::copy_side;
 use crate::tile::transpose;
@@ -13,6 +13,7 @@ ghost use mathlib.Core.Path.{_≡_};
 ghost use Prim.Native.Nat.{_+_, _*_, _≤_, _<_};
 ghost use lib.ListN.{length};
 ghost use Rattle.tray.specs.Written.{written};
+ghost use Rattle.tray.specs.Tiles.{Copied};
 ghost use Rattle.geometry.specs.Drift.{mirrored};
 ghost use Rattle.tray.specs.Turned.{compactOf};
 ghost use Rattle.tray.specs.Promises.{Placed, PageIn, compactPixel};
@@ -120,10 +121,20 @@ fn take_tile(from: &[u8], t: Turn, a: usize, b: usize, tile: &mut [u8])
     let mut start = row_start(p, mirror(t.readup, p.height, b));
     let mut k: usize = 0;
     while k < SIDE {
-        copy_side(from, start + a, tile, SIDE * k);
+        let line = row_from(from, start, p.width);
+        copy_side(line, a, tile, SIDE * k);
         start = wrapping_add_usize(start, row_step(t.readup, p.stride));
         k += 1;
     }
+}
+
+// Sixteen bytes of a tile fill a part of a row of the target, from its column b on.
+fn put_row(tile: &[u8], at: usize, to: &mut [u8], start: usize, width: usize, b: usize)
+    requires { ⌜ (at + 16 ≤ length (now tile)) × (start + width ≤ length (now to)) × (b + 16 ≤ width) ⌝ }
+    ensures { λ _. ⌜ Copied 16 (now (tile .entry)) at (start + b) (now (to .entry)) (now (to .exit)) ⌝ }
+{
+    let end = start + width;
+    copy_side(tile, at, &mut to[start..end], b);
 }
 
 // The sixteen rows of a tile fill parts of sixteen rows of the target.
@@ -136,7 +147,7 @@ fn put_tile(tile: &[u8], t: Turn, to: &mut [u8], a: usize, b: usize)
     let mut start = row_start(q, mirror(t.writeup, q.height, a));
     let mut i: usize = 0;
     while i < SIDE {
-        copy_side(tile, SIDE * i, to, start + b);
+        put_row(tile, SIDE * i, to, start, q.width, b);
         start = wrapping_add_usize(start, row_step(t.writeup, q.stride));
         i += 1;
     }

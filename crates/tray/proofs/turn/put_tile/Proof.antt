@@ -51,13 +51,17 @@ module _ (c : tie.In-loop Inv-loop μ-loop) where
       let t = begun .args .t in
       mirrored-room (t .writeup) (t .target) _ (begun .args .a + c .before .loop .i) _ (begun .pre .0) (omega (arith, begun .pre .1 .1, c .loop-test .taken)) starts
 
-add-copy-side : tie.Need-add-copy-side Inv-loop μ-loop
-add-copy-side c = omega (arith, room (c .before), begun (c .before) .pre .1 .2, begun (c .before) .good .1 .1 .0 .0)
+returns : tie.Need-returns Inv-loop μ-loop
+returns c =
+    let a = c .before .before .before .before .before .before .before .args in
+    let l = c .before .loop in
+    let done : l .i ≡ 16 = omega (arith, c .loop-test .left) in
+    subst (λ (n : ℕ). PutRows n (a .tile .now) (a .t) (a .a) (a .b) (a .to .now) (l .to)) done (l .inv .2)
 
-copy-side-requires : tie.Need-copy-side-requires Inv-loop μ-loop
-copy-side-requires c κs =
+put-row-requires : tie.Need-put-row-requires Inv-loop μ-loop
+put-row-requires c κs =
     let s = begun (c .before) in
-    (omega (arith, s .pre .1 .0, c .before .loop-test .taken), omega (arith, room (c .before), s .pre .1 .2, c .before .before .loop .inv .2 .size))
+    (omega (arith, s .pre .1 .0, c .before .loop-test .taken), omega (arith, room (c .before), c .before .before .loop .inv .2 .size), s .pre .1 .2)
 
 row-step-requires : tie.Need-row-step-requires Inv-loop μ-loop
 row-step-requires c κs =
@@ -66,8 +70,7 @@ row-step-requires c κs =
 
 loop-again : tie.Need-loop-again Inv-loop μ-loop
 loop-again c =
-    let copied = c .before .before .before .before in
-    let turn = copied .before .before in
+    let turn = c .before .before .before .before .before .before in
     let l = turn .before .loop in
     let s = begun turn in
     let a = s .args in
@@ -75,15 +78,8 @@ loop-again c =
       omega (arith, turn .loop-test .taken),
       λ more. c .wrapping-add-usize .ensures
           ∙ stepped (a .t .writeup) (a .t .target) _ (a .a + l .i) (a .a + (l .i + 1)) _ _ (s .pre .0) (omega (arith, s .good .1 .1 .0 .0)) (omega arith) (omega (arith, s .pre .1 .1)) (starts turn) on,
-      put-more (a .tile .now) (a .t) (a .a) (a .b) (l .i) (l .start) (a .to .now) (l .to) _ (s .pre .0) (omega (arith, s .pre .1 .1, turn .loop-test .taken)) (s .pre .1 .2) (starts turn) (copied .copy-side .ensures) (l .inv .2),
+      put-more (a .tile .now) (a .t) (a .a) (a .b) (l .i) (l .start) (a .to .now) (l .to) _ (s .pre .0) (omega (arith, s .pre .1 .1, turn .loop-test .taken)) (s .pre .1 .2) (starts turn) (c .before .before .before .before .put-row .ensures) (l .inv .2),
     )
-
-returns : tie.Need-returns Inv-loop μ-loop
-returns c =
-    let a = c .before .before .before .before .before .before .before .args in
-    let l = c .before .loop in
-    let done : l .i ≡ 16 = omega (arith, c .loop-test .left) in
-    subst (λ (n : ℕ). PutRows n (a .tile .now) (a .t) (a .a) (a .b) (a .to .now) (l .to)) done (l .inv .2)
 
 pub put-tile-spec : {M : Type 1} → statement M
 put-tile-spec =
@@ -95,8 +91,7 @@ put-tile-spec =
     row-start-requires
     loop-holds
     (λ c. search needs)
-    add-copy-side
-    copy-side-requires
+    put-row-requires
     row-step-requires
     (λ c κs. search needs)
     (λ c. search needs)

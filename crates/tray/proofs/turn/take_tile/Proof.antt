@@ -8,6 +8,7 @@ use lib.ListN.{length}
 use Rattle.geometry.specs.Drift.{mirrored}
 use Rattle.tray.specs.Placement.{rowStart}
 use Rattle.tray.specs.Pieces.{Taken}
+use Rattle.tray.proofs.Lent.{part-length, copied-from}
 use Rattle.tray.proofs.Lines.{mirrored-room, stepped, taken-none, taken-more}
 use Rattle.tray.proofs.turn.take_tile.Statement.{statement}
 use Rattle.tray.proofs.turn.take_tile.Tie as tie
@@ -51,33 +52,6 @@ module _ (c : tie.In-loop Inv-loop μ-loop) where
       let t = begun .args .t in
       mirrored-room (t .readup) (t .source) _ (begun .args .b + c .before .loop .k) _ (begun .pre .0) (omega (arith, begun .pre .1 .1, c .loop-test .taken)) starts
 
-add-copy-side : tie.Need-add-copy-side Inv-loop μ-loop
-add-copy-side c = omega (arith, room c, begun c .pre .1 .0, begun c .good .0 .0)
-
-copy-side-requires : tie.Need-copy-side-requires Inv-loop μ-loop
-copy-side-requires c κs =
-    let l = c .before .before .loop in
-    (omega (arith, room (c .before), begun (c .before) .pre .1 .0), omega (arith, l .inv .2 .size, c .before .loop-test .taken))
-
-row-step-requires : tie.Need-row-step-requires Inv-loop μ-loop
-row-step-requires c κs =
-    let placed = begun (c .before .before .before .before) .pre .0 in
-    omega (arith, placed .width-least, placed .stride-least)
-
-loop-again : tie.Need-loop-again Inv-loop μ-loop
-loop-again c =
-    let copied = c .before .before .before .before in
-    let turn = copied .before .before in
-    let l = turn .before .loop in
-    let s = begun turn in
-    let a = s .args in
-    let on = c .before .row-step .ensures in (
-      omega (arith, turn .loop-test .taken),
-      λ more. c .wrapping-add-usize .ensures
-          ∙ stepped (a .t .readup) (a .t .source) _ (a .b + l .k) (a .b + (l .k + 1)) _ _ (s .pre .0) (omega (arith, s .good .0 .0)) (omega arith) (omega (arith, s .pre .1 .1)) (starts turn) on,
-      taken-more (a .from .now) (a .t) (l .k) (a .a) (a .b) (l .start) (l .tile) _ (starts turn) (copied .copy-side .ensures) (l .inv .2),
-    )
-
 same-length : tie.Need-same-length Inv-loop μ-loop
 same-length c =
     let s = c .before .before .before .before .before .before .before in
@@ -90,6 +64,38 @@ returns c =
     let done : l .k ≡ 16 = omega (arith, c .loop-test .left) in
     subst (λ (n : ℕ). Taken n (a .from .now) (a .t) (a .a) (a .b) (l .tile)) done (l .inv .2)
 
+row-from-requires : tie.Need-row-from-requires Inv-loop μ-loop
+row-from-requires c κs = room c
+
+copy-side-requires : tie.Need-copy-side-requires Inv-loop μ-loop
+copy-side-requires c κs =
+    let turn = c .before .before in
+    let l = turn .before .loop in
+    let s = begun turn in
+    let wide = part-length (l .start) (s .args .t .source .width) (s .args .from .now) (room turn) in
+    (omega (arith, ap length (c .before .row-from .ensures), wide, s .pre .1 .0), omega (arith, l .inv .2 .size, turn .loop-test .taken))
+
+row-step-requires : tie.Need-row-step-requires Inv-loop μ-loop
+row-step-requires c κs =
+    let placed = begun (c .before .before .before .before .before) .pre .0 in
+    omega (arith, placed .width-least, placed .stride-least)
+
+loop-again : tie.Need-loop-again Inv-loop μ-loop
+loop-again c =
+    let turn = c .before .before .before .before .before .before .before in
+    let l = turn .before .loop in
+    let s = begun turn in
+    let a = s .args in
+    let on = c .before .row-step .ensures in
+    let line = c .before .before .before .before .before .before .row-from .ensures in (
+      omega (arith, turn .loop-test .taken),
+      λ more. c .wrapping-add-usize .ensures
+          ∙ stepped (a .t .readup) (a .t .source) _ (a .b + l .k) (a .b + (l .k + 1)) _ _ (s .pre .0) (omega (arith, s .good .0 .0)) (omega arith) (omega (arith, s .pre .1 .1)) (starts turn) on,
+      taken-more (a .from .now) (a .t) (l .k) (a .a) (a .b) (l .start) (l .tile) _ (starts turn)
+          (copied-from _ _ _ _ _ _ _ _ _ line (s .pre .1 .0) (c .before .before .before .before .copy-side .ensures))
+          (l .inv .2),
+    )
+
 pub take-tile-spec : {M : Type 1} → statement M
 take-tile-spec =
     tie.close
@@ -99,7 +105,7 @@ take-tile-spec =
     mirror-requires
     row-start-requires
     loop-holds
-    add-copy-side
+    row-from-requires
     (λ c. search needs)
     copy-side-requires
     row-step-requires
