@@ -19,7 +19,6 @@ use Rattle.geometry.specs.Drift.{mirrored}
 use Rattle.tray.specs.Promises.{Placed}
 use Rattle.tray.specs.Pieces.{Right, Moved, Turnable, Stored, Part}
 use Rattle.tray.specs.Laws.{row-room, byte-is, inside-byte, length-written, written-at, moved-none, moved-then, moved-length, moved-all, mirrored-in, mirrored-twice}
-use Rattle.tray.specs.Tiles.{Copied}
 use Rattle.tray.proofs.Lent.{lent-length, lent-below, lent-within, lent-above}
 
 -- ---- one row
@@ -167,20 +166,6 @@ pub stored-as :
     → Stored other b e before after
 stored-as value other b e before after same s =
     record { size = s .size; each = λ k from to. s .each k from to ∙ same k from to; below = s .below; above = s .above }
-
-pub copied-stored :
-    (value : ℕ → ℕ) (from : List ℕ) (a b : ℕ) (before after : List ℕ) → ((k : ℕ) → k < 16 → getD from (a + k) 0 ≡ value (b + k))
-    → Copied 16 from a b before after → Stored value b (b + 16) before after
-copied-stored value from a b before after same s =
-    record {
-      size = s .size;
-      each = λ k low high.
-          let l : k - b < 16 = omega arith in
-          let place : k ≡ b + (k - b) = omega arith in
-          ap (λ (m : ℕ). getD after m 0) place ∙ s .each (k - b) l ∙ same (k - b) l ∙ ap value (sym place);
-      below = s .below;
-      above = s .above;
-    }
 
 module _
     (t : Turn) (page : ℕ → ℕ → ℕ) (a b e : ℕ) (before ys : List ℕ) (r : ℕ) (is : r ≡ mirrored (t .writeup) (t .target .height) a)

@@ -1,9 +1,9 @@
 -- What the functions promise one another that move a page piece by piece. No caller from outside has to read this.
 -- Assumes nothing.
 use mathlib.Core.Path.{_≡_}
-use mathlib.Core.Bool.{Bool}
+use mathlib.Core.Bool.{Bool, true, false}
 use mathlib.Core.List.{List}
-use Prim.Native.Nat.{ℕ, _+_, _*_, _≤_, _<_}
+use Prim.Native.Nat.{ℕ, _+_, _-_, _*_, _≤_, _<_, _^_}
 use lib.ListN.{length, getD}
 use Rattle.tray.specs.declared.Placement.{Placement}
 use Rattle.tray.specs.declared.turn.Turn.{Turn}
@@ -45,6 +45,11 @@ pub record Turnable (t : Turn) (n m : ℕ) : Type 0 where
   pub to-tray : Placed (t .target) m
   pub across : t .target .width ≡ t .source .height
   pub down : t .target .height ≡ t .source .width
+
+-- what is added to a row's start, modulo 2^64, to give the next row's, or that of the row above it
+unfoldable pub stepOf : Bool → ℕ → ℕ
+stepOf true stride = 2 ^ 64 - stride
+stepOf false stride = stride
 
 -- in a row the columns from b to just before e hold a value each, and the others are as they were
 pub record Stored (value : ℕ → ℕ) (b e : ℕ) (before after : List ℕ) : Type 0 where

@@ -89,7 +89,7 @@ fn greater(a: usize, b: usize) -> usize
     a
 }
 
-// Where a row starts. No other function computes a row's place.
+// Where a row starts. No other function computes a row's place from its number; tiles go on from their first row's, stride by stride.
 pub fn row_start(p: Placement, r: usize) -> usize
     requires { ⌜ rowStart p r < 2 ^ 64 ⌝ }
     ensures { λ at. ⌜ at ≡ rowStart p r ⌝ }

@@ -4,17 +4,23 @@ use crate::Placement;
 use crate::place::row_start;
 use crate::row::fill_row;
 use crate::row::row;
+use crate::row::row_from;
 use crate::tile::SIDE;
 use crate::tile::copy_side;
 use crate::tile::transpose;
+use std::num::wrapping_add_usize;
 ghost use mathlib.Core.Path.{_≡_};
 ghost use Prim.Native.Nat.{_+_, _*_, _≤_, _<_};
 ghost use lib.ListN.{length};
 ghost use Rattle.tray.specs.Written.{written};
+ghost use Rattle.tray.specs.Tiles.{Copied};
 ghost use Rattle.geometry.specs.Drift.{mirrored};
 ghost use Rattle.tray.specs.Turned.{compactOf};
 ghost use Rattle.tray.specs.Promises.{Placed, PageIn, compactPixel};
-ghost use Rattle.tray.specs.Pieces.{Alike, Turnable, Stored, Taken, Part, PutRow, PutRows, copiedPixel, sourcePixel, turnedPixel};
+ghost use Rattle.tray.specs.Pieces.{Alike, Turnable, Stored, Taken, Part, PutRows, copiedPixel, sourcePixel, turnedPixel, stepOf};
+
+// How many tiles side by side make a band.
+const ACROSS: usize = 8;
 
 // A page and its transposed page. Where readup is true the source's rows are taken from the last one up, and where writeup is true the
 // target's rows are filled from the last one up.
@@ -93,6 +99,18 @@ fn turn_rows(from: &[u8], t: Turn, to: &mut [u8], a: usize, e: usize, b: usize)
     }
 }
 
+// What is added to a row's start to give the next row's, or that of the row above it. The sum is one that wraps, so that a tile is moved in
+// the same way up and down: with a branch for each row the compiler no longer keeps a tile in registers.
+fn row_step(up: bool, stride: usize) -> usize
+    requires { ⌜ 1 ≤ stride ⌝ }
+    ensures { λ r. ⌜ r ≡ stepOf up stride ⌝ }
+{
+    if up {
+        return usize::MAX - stride + 1;
+    }
+    stride
+}
+
 // Sixteen rows of the source, sixteen columns of each, are read into a tile.
 fn take_tile(from: &[u8], t: Turn, a: usize, b: usize, tile: &mut [u8])
     requires { ⌜ Placed (t .source) (length (now from)) ⌝ }
@@ -100,23 +118,22 @@ fn take_tile(from: &[u8], t: Turn, a: usize, b: usize, tile: &mut [u8])
     ensures { λ _. ⌜ Taken 16 (now (from .entry)) t a b (now (tile .exit)) ⌝ }
 {
     let p = t.source;
+    let mut start = row_start(p, mirror(t.readup, p.height, b));
     let mut k: usize = 0;
     while k < SIDE {
-        let line = row(from, p, mirror(t.readup, p.height, b + k));
+        let line = row_from(from, start, p.width);
         copy_side(line, a, tile, SIDE * k);
+        start = wrapping_add_usize(start, row_step(t.readup, p.stride));
         k += 1;
     }
 }
 
-// Sixteen bytes of a tile fill a part of a row of the target.
-fn put_row(tile: &[u8], at: usize, t: Turn, to: &mut [u8], a: usize, b: usize)
-    requires { ⌜ Placed (t .target) (length (now to)) ⌝ }
-    requires { ⌜ (at + 16 ≤ length (now tile)) × (a < t .target .height) × (b + 16 ≤ t .target .width) ⌝ }
-    ensures { λ _. ⌜ PutRow (now (tile .entry)) at t a b (now (to .entry)) (now (to .exit)) ⌝ }
+// Sixteen bytes of a tile fill a part of a row of the target, from its column b on.
+fn put_row(tile: &[u8], at: usize, to: &mut [u8], start: usize, width: usize, b: usize)
+    requires { ⌜ (at + 16 ≤ length (now tile)) × (start + width ≤ length (now to)) × (b + 16 ≤ width) ⌝ }
+    ensures { λ _. ⌜ Copied 16 (now (tile .entry)) at (start + b) (now (to .entry)) (now (to .exit)) ⌝ }
 {
-    let q = t.target;
-    let start = row_start(q, mirror(t.writeup, q.height, a));
-    let end = start + q.width;
+    let end = start + width;
     copy_side(tile, at, &mut to[start..end], b);
 }
 
@@ -126,9 +143,12 @@ fn put_tile(tile: &[u8], t: Turn, to: &mut [u8], a: usize, b: usize)
     requires { ⌜ (length (now tile) ≡ 256) × (a + 16 ≤ t .target .height) × (b + 16 ≤ t .target .width) ⌝ }
     ensures { λ _. ⌜ PutRows 16 (now (tile .entry)) t a b (now (to .entry)) (now (to .exit)) ⌝ }
 {
+    let q = t.target;
+    let mut start = row_start(q, mirror(t.writeup, q.height, a));
     let mut i: usize = 0;
     while i < SIDE {
-        put_row(tile, SIDE * i, t, to, a + i, b);
+        put_row(tile, SIDE * i, to, start, q.width, b);
+        start = wrapping_add_usize(start, row_step(t.writeup, q.stride));
         i += 1;
     }
 }
@@ -146,76 +166,60 @@ fn turn_tile(from: &[u8], t: Turn, to: &mut [u8], a: usize, b: usize)
     put_tile(&tile, t, to, a, b);
 }
 
-// Four tiles of the source, side by side, become four of the target, below one another: what is read of a row is then as long as the
-// machine takes from memory at once.
-fn turn_tiles(from: &[u8], t: Turn, to: &mut [u8], a: usize, b: usize)
+// So many tiles of the source, side by side, become as many of the target, below one another. A tile is turned at this one place only: the
+// compiler then makes it a part of the loop, and works out once what all its tiles share.
+fn turn_tiles(from: &[u8], t: Turn, to: &mut [u8], a: usize, n: usize, b: usize)
     requires { ⌜ Turnable t (length (now from)) (length (now to)) ⌝ }
-    requires { ⌜ (a + 64 ≤ t .target .height) × (b + 16 ≤ t .target .width) ⌝ }
-    ensures { λ _. ⌜ Part (turnedPixel (now (from .entry)) t) t a (a + 64) b (b + 16) (now (to .entry)) (now (to .exit)) ⌝ }
+    requires { ⌜ (a + 16 * n ≤ t .target .height) × (b + 16 ≤ t .target .width) ⌝ }
+    ensures { λ _. ⌜ Part (turnedPixel (now (from .entry)) t) t a (a + 16 * n) b (b + 16) (now (to .entry)) (now (to .exit)) ⌝ }
 {
-    turn_tile(from, t, to, a, b);
-    turn_tile(from, t, to, a + SIDE, b);
-    turn_tile(from, t, to, a + 2 * SIDE, b);
-    turn_tile(from, t, to, a + 3 * SIDE, b);
+    let mut i: usize = 0;
+    while i < n {
+        turn_tile(from, t, to, a + SIDE * i, b);
+        i += 1;
+    }
 }
 
-// Sixty-four columns of the source become as many rows of the target. Down a band the target's rows are filled from left to right, so that
-// what is read and written stays in the cache.
-fn turn_band(from: &[u8], t: Turn, to: &mut [u8], a: usize)
+// Down a band of n tiles the target's rows are filled from left to right, so that what is read and written stays in the cache.
+fn turn_band(from: &[u8], t: Turn, to: &mut [u8], a: usize, n: usize)
     requires { ⌜ Turnable t (length (now from)) (length (now to)) ⌝ }
-    requires { ⌜ a + 64 ≤ t .target .height ⌝ }
-    ensures { λ _. ⌜ Part (turnedPixel (now (from .entry)) t) t a (a + 64) 0 (t .target .width) (now (to .entry)) (now (to .exit)) ⌝ }
+    requires { ⌜ a + 16 * n ≤ t .target .height ⌝ }
+    ensures { λ _. ⌜ Part (turnedPixel (now (from .entry)) t) t a (a + 16 * n) 0 (t .target .width) (now (to .entry)) (now (to .exit)) ⌝ }
 {
     let width = t.target.width;
     let mut b: usize = 0;
     while SIDE <= width - b {
-        turn_tiles(from, t, to, a, b);
+        turn_tiles(from, t, to, a, n, b);
         b += SIDE;
     }
-    turn_rows(from, t, to, a, a + 4 * SIDE, b);
+    turn_rows(from, t, to, a, a + SIDE * n, b);
 }
 
-// Sixteen columns of the source become sixteen rows of the target.
-fn turn_strip(from: &[u8], t: Turn, to: &mut [u8], a: usize)
-    requires { ⌜ Turnable t (length (now from)) (length (now to)) ⌝ }
-    requires { ⌜ a + 16 ≤ t .target .height ⌝ }
-    ensures { λ _. ⌜ Part (turnedPixel (now (from .entry)) t) t a (a + 16) 0 (t .target .width) (now (to .entry)) (now (to .exit)) ⌝ }
+// How many tiles side by side the next band has, where so many columns of the source are left. With more of them more of a row is read at
+// a time, but more rows are written to by turns than the cache keeps apart.
+fn tiles_across(left: usize) -> usize
+    requires { ⌜ 16 ≤ left ⌝ }
+    ensures { λ n. ⌜ (1 ≤ n) × (16 * n ≤ left) ⌝ }
 {
-    let width = t.target.width;
-    let mut b: usize = 0;
-    while SIDE <= width - b {
-        turn_tile(from, t, to, a, b);
-        b += SIDE;
+    if left < ACROSS * SIDE {
+        return left / SIDE;
     }
-    turn_rows(from, t, to, a, a + SIDE, b);
+    ACROSS
 }
 
-// The target's rows in bands, as far as bands go. It answers how many rows are filled.
+// The target's rows in bands, as far as tiles go. It answers how many rows are filled.
 fn turn_bands(from: &[u8], t: Turn, to: &mut [u8]) -> usize
     requires { ⌜ Turnable t (length (now from)) (length (now to)) ⌝ }
     ensures { λ r. ⌜ (r ≤ t .target .height) × Part (turnedPixel (now (from .entry)) t) t 0 r 0 (t .target .width) (now (to .entry)) (now (to .exit)) ⌝ }
 {
     let height = t.target.height;
     let mut a: usize = 0;
-    while 4 * SIDE <= height - a {
-        turn_band(from, t, to, a);
-        a += 4 * SIDE;
+    while SIDE <= height - a {
+        let n = tiles_across(height - a);
+        turn_band(from, t, to, a, n);
+        a += SIDE * n;
     }
     a
-}
-
-// The rows from one on in strips, and what no strip covers.
-fn turn_strips(from: &[u8], t: Turn, to: &mut [u8], start: usize)
-    requires { ⌜ Turnable t (length (now from)) (length (now to)) × (start ≤ t .target .height) ⌝ }
-    ensures { λ _. ⌜ Part (turnedPixel (now (from .entry)) t) t start (t .target .height) 0 (t .target .width) (now (to .entry)) (now (to .exit)) ⌝ }
-{
-    let height = t.target.height;
-    let mut a = start;
-    while SIDE <= height - a {
-        turn_strip(from, t, to, a);
-        a += SIDE;
-    }
-    turn_rows(from, t, to, a, height, 0);
 }
 
 // The target becomes the source transposed.
@@ -224,7 +228,7 @@ fn turn_page(from: &[u8], t: Turn, to: &mut [u8])
     ensures { λ _. ⌜ now (to .exit) ≡ written (t .target) (turnedPixel (now (from .entry)) t) (now (to .entry)) ⌝ }
 {
     let a = turn_bands(from, t, to);
-    turn_strips(from, t, to, a);
+    turn_rows(from, t, to, a, t.target.height, 0);
 }
 
 // Where the compact page stands in its own tray.

@@ -1,9 +1,9 @@
 -- `tray::row::row` meets its contract: a row of a page that fits lies in the tray. Assumes nothing.
-use Prim.Native.Nat.{_+_, _≤_}
-use native.Mathlib.Nat.{add-sub-cancel-left}
+use mathlib.Core.Path.{ap, _∙_}
+use mathlib.Core.List.{List}
+use Prim.Native.Nat.{ℕ, _+_, _≤_}
 use native.Mathlib.Omega.{arith}
-use borrow.Author.Needs.{needs}
-use lib.ListN.{length}
+use lib.ListN.{length, take, drop}
 use Rattle.tray.specs.Placement.{rowStart}
 use Rattle.tray.specs.Laws.{row-room}
 use Rattle.tray.proofs.row.row.Statement.{statement}
@@ -15,14 +15,13 @@ room c = row-room _ _ _ (c .pre .0) (c .pre .1)
 row-start-requires : tie.Need-row-start-requires
 row-start-requires c κs = omega (arith, room (c .before), c .before .good .0 .0)
 
-add-end : tie.Need-add-end
-add-end c = omega (arith, room (c .before .before .before), c .before .row-start .ensures)
-
-part-result-end : tie.Need-part-result-end
-part-result-end c = omega (arith, room (c .before .before .before), c .before .row-start .ensures)
+row-from-requires : tie.Need-row-from-requires
+row-from-requires c κs = omega (arith, room (c .before .before), c .row-start .ensures)
 
 returns : tie.Need-returns
-returns c = simp (add-sub-cancel-left, c .before .before .row-start .ensures)
+returns c =
+    let a = c .before .before .before .args in
+    c .row-from .ensures ∙ ap (λ (q : ℕ). take (a .p .width) (drop q (a .tray .now))) (c .before .row-start .ensures)
 
 pub row-spec : {M : Type 1} → statement M
-row-spec = tie.close (tie.spec row-start-requires add-end (λ c. search needs) (λ c. search needs) part-result-end returns)
+row-spec = tie.close (tie.spec row-start-requires row-from-requires returns)

@@ -1,77 +1,100 @@
--- `tray::turn::take_tile` meets its contract. The invariant: k rows of the tile are taken. Assumes nothing.
-use mathlib.Core.Path.{_≡_, sym, subst}
+-- `tray::turn::take_tile` meets its contract. The invariant: k rows of the tile are taken, and start is where the next one starts, if there
+-- is a next one. Assumes nothing.
+use mathlib.Core.Path.{_≡_, _∙_, ap, subst}
 use Prim.Native.Nat.{ℕ, _+_, _-_, _≤_, _<_}
 use native.Mathlib.Omega.{arith}
 use borrow.Author.Needs.{needs}
-use Rattle.tray.specs.Laws.{mirrored-in}
+use lib.ListN.{length}
+use Rattle.geometry.specs.Drift.{mirrored}
+use Rattle.tray.specs.Placement.{rowStart}
 use Rattle.tray.specs.Pieces.{Taken}
-use Rattle.tray.proofs.Lines.{line-length, line-source, taken-none, taken-more}
+use Rattle.tray.proofs.Lent.{part-length, copied-from}
+use Rattle.tray.proofs.Lines.{mirrored-room, stepped, taken-none, taken-more}
 use Rattle.tray.proofs.turn.take_tile.Statement.{statement}
 use Rattle.tray.proofs.turn.take_tile.Tie as tie
 
 abbrev Inv-loop : tie.InvT-loop
-Inv-loop from t a b tile₀ p k₀ tile k = (k ≤ 16) × Taken k from t a b tile
+Inv-loop from t a b tile₀ p start₀ k₀ tile start k =
+    (k ≤ 16) × (k < 16 → start ≡ rowStart (t .source) (mirrored (t .readup) (t .source .height) (b + k))) × Taken k from t a b tile
 
 abbrev μ-loop : tie.MeasureT-loop
-μ-loop from t a b tile₀ p k₀ tile k = 16 - k
-
-loop-holds : tie.Need-loop-holds Inv-loop μ-loop
-loop-holds c = (search needs, taken-none _ _ _ _ _ (c .before .before .before .pre .1 .2))
-
--- the row that is read is one of the source's
-column-in : (c : tie.In-loop Inv-loop μ-loop) → let s = c .before .before .before .before .before in s .args .b + c .before .loop .k < s .args .t .source .height
-column-in c =
-    let s = c .before .before .before .before .before in
-    omega (arith, s .pre .1 .1, c .loop-test .taken)
-
-row-in : (c : tie.After-mirror Inv-loop μ-loop) → c .mirror .result < c .before .before .before .before .before .before .args .t .source .height
-row-in c =
-    let t = c .before .before .before .before .before .before .args .t in
-    subst (λ (r : ℕ). r < t .source .height) (sym (c .mirror .ensures)) (mirrored-in (t .readup) (t .source .height) _ (column-in (c .before)))
-
-add-mirror : tie.Need-add-mirror Inv-loop μ-loop
-add-mirror c = omega (arith, column-in c, c .before .before .before .before .before .pre .0 .height-most)
+μ-loop from t a b tile₀ p start₀ k₀ tile start k = 16 - k
 
 mirror-requires : tie.Need-mirror-requires Inv-loop μ-loop
-mirror-requires c κs = column-in c
+mirror-requires c κs = omega (arith, c .before .before .before .pre .1 .1)
 
-row-requires : tie.Need-row-requires Inv-loop μ-loop
-row-requires c κs = (c .before .before .before .before .before .before .pre .0, row-in c)
+row-start-requires : tie.Need-row-start-requires Inv-loop μ-loop
+row-start-requires c κs =
+    let s = c .before .before .before .before in
+    let t = s .args .t in
+    let room = mirrored-room (t .readup) (t .source) _ (s .args .b) _ (s .pre .0) (omega (arith, s .pre .1 .1)) (ap (rowStart (t .source)) (c .mirror .ensures)) in
+    omega (arith, room, s .good .0 .0)
 
-copy-side-requires : tie.Need-copy-side-requires Inv-loop μ-loop
-copy-side-requires c κs =
-    let m = c .before .before in
-    let s = m .before .before .before .before .before .before in
-    let l = m .before .before .loop in
-    let long = line-length (s .args .from .now) (c .before .row .result .now) (s .args .t .source) (m .mirror .result) (c .before .row .ensures) (s .pre .0) (row-in m) in
-    (omega (arith, long, s .pre .1 .0), omega (arith, l .inv .1 .size, m .before .loop-test .taken))
-
-loop-again : tie.Need-loop-again Inv-loop μ-loop
-loop-again c =
-    let handed = c .before .before .before .before in
-    let m = handed .before in
-    let l = m .before .before .loop in
-    let s = m .before .before .before .before .before .before in
-    let a = s .args in
-    let pixel = line-source (a .from .now) (a .t) (handed .row .result .now) (m .mirror .result) (a .b + l .k) (handed .row .ensures) (m .mirror .ensures) in (
-      omega (arith, m .before .loop-test .taken),
-      taken-more (a .from .now) (a .t) (l .k) (a .a) (a .b) (handed .row .result .now) (l .tile) _
-          (λ i i-in. pixel (a .a + i) (omega (arith, s .pre .1 .0)))
-          (c .before .before .copy-side .ensures)
-          (l .inv .1),
+loop-holds : tie.Need-loop-holds Inv-loop μ-loop
+loop-holds c =
+    let s = c .before .before .before .before .before in
+    let t = s .args .t in
+    let first : s .args .b ≡ s .args .b + 0 = omega arith in (
+      search needs,
+      λ some. c .row-start .ensures ∙ ap (rowStart (t .source)) (c .before .mirror .ensures ∙ ap (mirrored (t .readup) (t .source .height)) first),
+      taken-none _ _ _ _ _ (s .pre .1 .2),
     )
+
+module _ (c : tie.In-loop Inv-loop μ-loop) where
+  abbrev begun : tie.Start Inv-loop μ-loop
+  begun = c .before .before .before .before .before .before .before
+
+  starts : c .before .loop .start ≡ rowStart (begun .args .t .source) (mirrored (begun .args .t .readup) (begun .args .t .source .height) (begun .args .b + c .before .loop .k))
+  starts = c .before .loop .inv .1 (c .loop-test .taken)
+
+  room : c .before .loop .start + begun .args .t .source .width ≤ length (begun .args .from .now)
+  room =
+      let t = begun .args .t in
+      mirrored-room (t .readup) (t .source) _ (begun .args .b + c .before .loop .k) _ (begun .pre .0) (omega (arith, begun .pre .1 .1, c .loop-test .taken)) starts
 
 same-length : tie.Need-same-length Inv-loop μ-loop
 same-length c =
-    let s = c .before .before .before .before .before in
-    omega (arith, c .before .loop .inv .1 .size, s .pre .1 .2)
+    let s = c .before .before .before .before .before .before .before in
+    omega (arith, c .before .loop .inv .2 .size, s .pre .1 .2)
 
 returns : tie.Need-returns Inv-loop μ-loop
 returns c =
-    let a = c .before .before .before .before .before .args in
+    let a = c .before .before .before .before .before .before .before .args in
     let l = c .before .loop in
     let done : l .k ≡ 16 = omega (arith, c .loop-test .left) in
-    subst (λ (n : ℕ). Taken n (a .from .now) (a .t) (a .a) (a .b) (l .tile)) done (l .inv .1)
+    subst (λ (n : ℕ). Taken n (a .from .now) (a .t) (a .a) (a .b) (l .tile)) done (l .inv .2)
+
+row-from-requires : tie.Need-row-from-requires Inv-loop μ-loop
+row-from-requires c κs = room c
+
+copy-side-requires : tie.Need-copy-side-requires Inv-loop μ-loop
+copy-side-requires c κs =
+    let turn = c .before .before in
+    let l = turn .before .loop in
+    let s = begun turn in
+    let wide = part-length (l .start) (s .args .t .source .width) (s .args .from .now) (room turn) in
+    (omega (arith, ap length (c .before .row-from .ensures), wide, s .pre .1 .0), omega (arith, l .inv .2 .size, turn .loop-test .taken))
+
+row-step-requires : tie.Need-row-step-requires Inv-loop μ-loop
+row-step-requires c κs =
+    let placed = begun (c .before .before .before .before .before) .pre .0 in
+    omega (arith, placed .width-least, placed .stride-least)
+
+loop-again : tie.Need-loop-again Inv-loop μ-loop
+loop-again c =
+    let turn = c .before .before .before .before .before .before .before in
+    let l = turn .before .loop in
+    let s = begun turn in
+    let a = s .args in
+    let on = c .before .row-step .ensures in
+    let line = c .before .before .before .before .before .before .row-from .ensures in (
+      omega (arith, turn .loop-test .taken),
+      λ more. c .wrapping-add-usize .ensures
+          ∙ stepped (a .t .readup) (a .t .source) _ (a .b + l .k) (a .b + (l .k + 1)) _ _ (s .pre .0) (omega (arith, s .good .0 .0)) (omega arith) (omega (arith, s .pre .1 .1)) (starts turn) on,
+      taken-more (a .from .now) (a .t) (l .k) (a .a) (a .b) (l .start) (l .tile) _ (starts turn)
+          (copied-from _ _ _ _ _ _ _ _ _ line (s .pre .1 .0) (c .before .before .before .before .copy-side .ensures))
+          (l .inv .2),
+    )
 
 pub take-tile-spec : {M : Type 1} → statement M
 take-tile-spec =
@@ -79,12 +102,14 @@ take-tile-spec =
     (tie.spec
     Inv-loop
     μ-loop
-    loop-holds
-    add-mirror
     mirror-requires
-    row-requires
+    row-start-requires
+    loop-holds
+    row-from-requires
     (λ c. search needs)
     copy-side-requires
+    row-step-requires
+    (λ c κs. search needs)
     (λ c. search needs)
     (λ c. search needs)
     loop-again

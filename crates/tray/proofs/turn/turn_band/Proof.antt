@@ -1,5 +1,5 @@
 -- `tray::turn::turn_band` meets its contract. The invariant: the band is right from column 0 to just before b. Assumes nothing.
-use Prim.Native.Nat.{_+_, _-_, _≤_}
+use Prim.Native.Nat.{_+_, _-_, _*_, _≤_}
 use native.Mathlib.Omega.{arith}
 use borrow.Author.Needs.{needs}
 use Rattle.tray.specs.Pieces.{Part, turnedPixel}
@@ -9,10 +9,10 @@ use Rattle.tray.proofs.turn.turn_band.Statement.{statement}
 use Rattle.tray.proofs.turn.turn_band.Tie as tie
 
 abbrev Inv-loop : tie.InvT-loop
-Inv-loop from t to₀ a width b₀ to b = (b ≤ t .target .width) × Part (turnedPixel from t) t a (a + 64) 0 b to₀ to
+Inv-loop from t to₀ a n width b₀ to b = (b ≤ t .target .width) × Part (turnedPixel from t) t a (a + 16 * n) 0 b to₀ to
 
 abbrev μ-loop : tie.MeasureT-loop
-μ-loop from t to₀ a width b₀ to b = t .target .width - b
+μ-loop from t to₀ a n width b₀ to b = t .target .width - b
 
 loop-holds : tie.Need-loop-holds Inv-loop μ-loop
 loop-holds c = (search needs, part-empty _ _ _ _ _ _)
@@ -30,8 +30,18 @@ loop-again c =
     let s = turn .before .before .before .before in
     let a = s .args in (
       omega (arith, turn .loop-test .taken, l .inv .0),
-      join-across (a .t) (turnedPixel (a .from .now) (a .t)) (a .to .now) (l .to) _ (a .a) (a .a + 64) 0 (l .b) (l .b + 16) (s .pre .1) (l .inv .0) (l .inv .1) (c .before .before .turn-tiles .ensures),
+      join-across (a .t) (turnedPixel (a .from .now) (a .t)) (a .to .now) (l .to) _ (a .a) (a .a + 16 * a .n) 0 (l .b) (l .b + 16) (s .pre .1) (l .inv .0) (l .inv .1) (c .before .before .turn-tiles .ensures),
     )
+
+mul-turn-rows : tie.Need-mul-turn-rows Inv-loop μ-loop
+mul-turn-rows c =
+    let s = c .before .before .before .before .before in
+    omega (arith, s .pre .1, s .pre .0 .to-tray .height-most)
+
+add-turn-rows : tie.Need-add-turn-rows Inv-loop μ-loop
+add-turn-rows c =
+    let s = c .before .before .before .before .before in
+    omega (arith, s .pre .1, s .pre .0 .to-tray .height-most)
 
 turn-rows-requires : tie.Need-turn-rows-requires Inv-loop μ-loop
 turn-rows-requires c κs =
@@ -48,7 +58,7 @@ returns c =
     let l = c .before .before .before .before .before .loop in
     let s = c .before .before .before .before .before .before .before .before in
     let a = s .args in
-    join-across (a .t) (turnedPixel (a .from .now) (a .t)) (a .to .now) (l .to) _ (a .a) (a .a + 64) 0 (l .b) (a .t .target .width) (s .pre .1) (l .inv .0) (l .inv .1) (c .before .before .turn-rows .ensures)
+    join-across (a .t) (turnedPixel (a .from .now) (a .t)) (a .to .now) (l .to) _ (a .a) (a .a + 16 * a .n) 0 (l .b) (a .t .target .width) (s .pre .1) (l .inv .0) (l .inv .1) (c .before .before .turn-rows .ensures)
 
 pub turn-band-spec : {M : Type 1} → statement M
 turn-band-spec =
@@ -62,8 +72,8 @@ turn-band-spec =
     (λ c. search needs)
     (λ c. search needs)
     loop-again
-    (λ c. search needs)
-    (λ c. search needs)
+    mul-turn-rows
+    add-turn-rows
     turn-rows-requires
     same-length
     returns)

@@ -1,5 +1,5 @@
 -- `tray::turn::turn_bands` meets its contract. The invariant: the first a rows are filled. Assumes nothing.
-use Prim.Native.Nat.{_+_, _-_, _≤_}
+use Prim.Native.Nat.{_+_, _-_, _*_, _≤_}
 use native.Mathlib.Nat.{le-refl}
 use native.Mathlib.Omega.{arith}
 use borrow.Author.Needs.{needs}
@@ -19,18 +19,32 @@ loop-holds c = (search needs, part-none _ _ _ _ _ _)
 
 turn-band-requires : tie.Need-turn-band-requires Inv-loop μ-loop
 turn-band-requires c κs =
-    let l = c .before .before .loop in
-    let s = c .before .before .before .before .before in
-    (turnable-still _ _ _ _ (part-size _ _ _ _ _ _ _ _ (l .inv .1)) (s .pre), omega (arith, c .before .loop-test .taken, l .inv .0))
+    let l = c .before .before .before .loop in
+    let s = c .before .before .before .before .before .before in
+    (turnable-still _ _ _ _ (part-size _ _ _ _ _ _ _ _ (l .inv .1)) (s .pre), omega (arith, c .before .tiles-across .ensures .1, l .inv .0))
+
+mul-a : tie.Need-mul-a Inv-loop μ-loop
+mul-a c = omega (arith, c .before .before .before .before .tiles-across .ensures .1, c .before .before .before .before .before .before .before .before .before .pre .to-tray .height-most)
+
+add-a : tie.Need-add-a Inv-loop μ-loop
+add-a c =
+    let counted = c .before .before .before .before in
+    omega (arith, counted .tiles-across .ensures .1, counted .before .before .loop .inv .0, counted .before .before .before .before .before .pre .to-tray .height-most)
+
+loop-less : tie.Need-loop-less Inv-loop μ-loop
+loop-less c =
+    let counted = c .before .before .before .before in
+    omega (arith, counted .tiles-across .ensures, counted .before .before .loop .inv .0)
 
 loop-again : tie.Need-loop-again Inv-loop μ-loop
 loop-again c =
-    let turn = c .before .before .before .before in
+    let counted = c .before .before .before .before in
+    let turn = counted .before in
     let l = turn .before .loop in
     let s = turn .before .before .before .before in
     let a = s .args in (
-      omega (arith, turn .loop-test .taken, l .inv .0),
-      join-down (a .t) (turnedPixel (a .from .now) (a .t)) (a .to .now) (l .to) _ 0 (l .a) (l .a + 64) 0 (a .t .target .width) (l .inv .0) (le-refl _) (l .inv .1) (c .before .before .turn-band .ensures),
+      omega (arith, counted .tiles-across .ensures .1, l .inv .0),
+      join-down (a .t) (turnedPixel (a .from .now) (a .t)) (a .to .now) (l .to) _ 0 (l .a) (l .a + 16 * counted .tiles-across .result) 0 (a .t .target .width) (l .inv .0) (le-refl _) (l .inv .1) (c .before .before .turn-band .ensures),
     )
 
 same-length : tie.Need-same-length Inv-loop μ-loop
@@ -48,10 +62,11 @@ turn-bands-spec =
     loop-holds
     (λ c. search needs)
     (λ c. search needs)
+    (λ c κs. search needs)
     turn-band-requires
-    (λ c. search needs)
-    (λ c. search needs)
-    (λ c. search needs)
+    mul-a
+    add-a
+    loop-less
     loop-again
     same-length
     returns)

@@ -1,71 +1,75 @@
--- `tray::turn::turn_tiles` meets its contract: four tiles, joined downwards. Assumes nothing.
-use mathlib.Core.Path.{_∙_}
-use Prim.Native.Nat.{_+_}
+-- `tray::turn::turn_tiles` meets its contract. The invariant: i tiles are in their place. Assumes nothing.
+use mathlib.Core.Path.{_≡_}
+use Prim.Native.Nat.{_+_, _-_, _*_, _≤_}
 use native.Mathlib.Omega.{arith}
 use borrow.Author.Needs.{needs}
-use Rattle.tray.specs.Pieces.{turnedPixel}
-use Rattle.tray.proofs.Pieces.{part-size, part-end, join-down, turnable-still}
+use Rattle.tray.specs.Pieces.{Part, turnedPixel}
+use Rattle.tray.proofs.Pieces.{part-none, part-size, part-end, join-down, turnable-still}
 use Rattle.tray.proofs.turn.turn_tiles.Statement.{statement}
 use Rattle.tray.proofs.turn.turn_tiles.Tie as tie
 
-turn-tile-requires : tie.Need-turn-tile-requires
+abbrev Inv-loop : tie.InvT-loop
+Inv-loop from t to₀ a n b i₀ to i = (i ≤ n) × Part (turnedPixel from t) t a (a + 16 * i) b (b + 16) to₀ to
+
+abbrev μ-loop : tie.MeasureT-loop
+μ-loop from t to₀ a n b i₀ to i = n - i
+
+loop-holds : tie.Need-loop-holds Inv-loop μ-loop
+loop-holds c =
+    let a = c .before .before .args in
+    (search needs, part-end (a .t) (turnedPixel (a .from .now) (a .t)) (a .a) (a .a) (a .a + 16 * 0) (a .b) (a .b + 16) _ _ (omega arith) (part-none _ _ _ _ _ _))
+
+-- the tile's columns are the source's
+low : (c : tie.In-loop Inv-loop μ-loop) → let s = c .before .before .before .before in s .args .a + 16 * c .before .loop .i + 16 ≤ s .args .t .target .height
+low c = omega (arith, c .before .before .before .before .pre .1 .0, c .loop-test .taken)
+
+mul-turn-tile : tie.Need-mul-turn-tile Inv-loop μ-loop
+mul-turn-tile c = omega (arith, low (c .before), c .before .before .before .before .before .pre .0 .to-tray .height-most)
+
+add-turn-tile : tie.Need-add-turn-tile Inv-loop μ-loop
+add-turn-tile c = omega (arith, low (c .before), c .before .before .before .before .before .pre .0 .to-tray .height-most)
+
+turn-tile-requires : tie.Need-turn-tile-requires Inv-loop μ-loop
 turn-tile-requires c κs =
-    let s = c .before .before .before in
-    (s .pre .0, (omega (arith, s .pre .1 .0), s .pre .1 .1))
+    let l = c .before .before .loop in
+    let s = c .before .before .before .before .before in
+    (turnable-still _ _ _ _ (part-size _ _ _ _ _ _ _ _ (l .inv .1)) (s .pre .0), (low (c .before), s .pre .1 .1))
 
-add-turn-tile : tie.Need-add-turn-tile
-add-turn-tile c = record { fits = omega (arith, c .before .before .before .before .before .before .before .pre) }
-
-turn-tile-requires-2 : tie.Need-turn-tile-requires-2
-turn-tile-requires-2 c κs =
-    let s = c .before .before .before .before .before .before .before in
-    (turnable-still _ _ _ _ (part-size _ _ _ _ _ _ _ _ (c .before .before .before .turn-tile .ensures)) (s .pre .0), (omega (arith, s .pre .1 .0), s .pre .1 .1))
-
-add-turn-tile-2 : tie.Need-add-turn-tile-2
-add-turn-tile-2 c = record { fits = omega (arith, c .before .before .before .before .before .before .before .before .before .before .before .pre) }
-
-turn-tile-requires-3 : tie.Need-turn-tile-requires-3
-turn-tile-requires-3 c κs =
-    let s = c .before .before .before .before .before .before .before .before .before .before .before in
-    (turnable-still _ _ _ _ (part-size _ _ _ _ _ _ _ _ (c .before .before .before .turn-tile2 .ensures) ∙ part-size _ _ _ _ _ _ _ _ (c .before .before .before .before .before .before .before .turn-tile .ensures)) (s .pre .0), (omega (arith, s .pre .1 .0), s .pre .1 .1))
-
-add-turn-tile-3 : tie.Need-add-turn-tile-3
-add-turn-tile-3 c = record { fits = omega (arith, c .before .before .before .before .before .before .before .before .before .before .before .before .before .before .before .pre) }
-
-turn-tile-requires-4 : tie.Need-turn-tile-requires-4
-turn-tile-requires-4 c κs =
-    let s = c .before .before .before .before .before .before .before .before .before .before .before .before .before .before .before in
-    (turnable-still _ _ _ _ (part-size _ _ _ _ _ _ _ _ (c .before .before .before .turn-tile3 .ensures) ∙ part-size _ _ _ _ _ _ _ _ (c .before .before .before .before .before .before .before .turn-tile2 .ensures) ∙ part-size _ _ _ _ _ _ _ _ (c .before .before .before .before .before .before .before .before .before .before .before .turn-tile .ensures)) (s .pre .0), (omega (arith, s .pre .1 .0), s .pre .1 .1))
-
-same-length : tie.Need-same-length
-same-length c = part-size _ _ _ _ _ _ _ _ (c .before .before .turn-tile4 .ensures) ∙ part-size _ _ _ _ _ _ _ _ (c .before .before .before .before .before .before .turn-tile3 .ensures) ∙ part-size _ _ _ _ _ _ _ _ (c .before .before .before .before .before .before .before .before .before .before .turn-tile2 .ensures) ∙ part-size _ _ _ _ _ _ _ _ (c .before .before .before .before .before .before .before .before .before .before .before .before .before .before .turn-tile .ensures)
-
-returns : tie.Need-returns
-returns c =
-    let s = c .before .before .before .before .before .before .before .before .before .before .before .before .before .before .before .before .before .before in
+loop-again : tie.Need-loop-again Inv-loop μ-loop
+loop-again c =
+    let turn = c .before .before .before .before in
+    let l = turn .before .loop in
+    let s = turn .before .before .before .before in
     let a = s .args in
     let page = turnedPixel (a .from .now) (a .t) in
-    let low = s .pre .1 .0 in
-    let wide = s .pre .1 .1 in
-    let two = part-end (a .t) page (a .a) (a .a + 16 + 16) (a .a + 32) (a .b) (a .b + 16) _ _ (omega arith)
-    (join-down (a .t) page _ _ _ (a .a) (a .a + 16) (a .a + 16 + 16) (a .b) (a .b + 16) (omega (arith, low)) wide (c .before .before .before .before .before .before .before .before .before .before .before .before .before .before .turn-tile .ensures) (c .before .before .before .before .before .before .before .before .before .before .turn-tile2 .ensures)) in
-    let three = part-end (a .t) page (a .a) (a .a + 32 + 16) (a .a + 48) (a .b) (a .b + 16) _ _ (omega arith)
-    (join-down (a .t) page _ _ _ (a .a) (a .a + 32) (a .a + 32 + 16) (a .b) (a .b + 16) (omega (arith, low)) wide two (c .before .before .before .before .before .before .turn-tile3 .ensures)) in
-    part-end (a .t) page (a .a) (a .a + 48 + 16) (a .a + 64) (a .b) (a .b + 16) _ _ (omega arith)
-    (join-down (a .t) page _ _ _ (a .a) (a .a + 48) (a .a + 48 + 16) (a .b) (a .b + 16) (omega (arith, low)) wide three (c .before .before .turn-tile4 .ensures))
+    let end = a .a + 16 * l .i in (
+      omega (arith, turn .loop-test .taken),
+      part-end (a .t) page (a .a) (end + 16) (a .a + 16 * (l .i + 1)) (a .b) (a .b + 16) _ _ (omega arith)
+          (join-down (a .t) page (a .to .now) (l .to) _ (a .a) end (end + 16) (a .b) (a .b + 16) (omega (arith, low turn)) (s .pre .1 .1) (l .inv .1) (c .before .before .turn-tile .ensures)),
+    )
+
+same-length : tie.Need-same-length Inv-loop μ-loop
+same-length c = part-size _ _ _ _ _ _ _ _ (c .before .loop .inv .1)
+
+returns : tie.Need-returns Inv-loop μ-loop
+returns c =
+    let l = c .before .loop in
+    let a = c .before .before .before .before .args in
+    let done : l .i ≡ a .n = omega (arith, c .loop-test .left) in
+    part-end (a .t) (turnedPixel (a .from .now) (a .t)) (a .a) (a .a + 16 * l .i) (a .a + 16 * a .n) (a .b) (a .b + 16) _ _ (omega arith) (l .inv .1)
 
 pub turn-tiles-spec : {M : Type 1} → statement M
 turn-tiles-spec =
     tie.close
     (tie.spec
-    turn-tile-requires
+    Inv-loop
+    μ-loop
+    loop-holds
+    mul-turn-tile
     add-turn-tile
-    turn-tile-requires-2
+    turn-tile-requires
     (λ c. search needs)
-    add-turn-tile-2
-    turn-tile-requires-3
     (λ c. search needs)
-    add-turn-tile-3
-    turn-tile-requires-4
+    loop-again
     same-length
     returns)
