@@ -1,4 +1,5 @@
 pub mod Backwarding
+pub mod Bottoming
 pub mod Bounds
 pub mod Forwarding
 pub mod Found

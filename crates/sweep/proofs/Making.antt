@@ -13,7 +13,7 @@ use borrow.Author.Tests.{eq-eqb, ne-eqb}
 use Rattle.geometry.specs.Line.{period, stepOf}
 use Rattle.sweep.specs.Span.{chosen}
 use Rattle.sweep.specs.Block.{fromStart, toEnd, windowed, rightward, leftward, resulting}
-use Rattle.sweep.specs.BlockLaws.{fromStart-first, fromStart-next, toEnd-last, toEnd-next, result-whole, result-block, result-across, result-cut, result-short, result-early, result-all}
+use Rattle.sweep.specs.BlockLaws.{fromStart-first, fromStart-next, toEnd-last, toEnd-next, result-whole, result-block, result-across, result-cut, result-short, result-within, result-last, result-early, result-all, result-short-line}
 use Rattle.sweep.specs.Grid.{Page, Pixel, startRow, lineName, entry, leave, steps, rowAt, columnAt, along, number, lineSteps, toEndAt, fromStartAt, windowedAt, rightwardAt, leftwardAt, resultingAt}
 use Rattle.sweep.specs.GridLaws.{OnPage, on-line, on-page, own-step, start-small, row-again, column-again, number-is, number-below, page-on, toEnd-on, fromStart-on}
 use Rattle.sweep.specs.declared.Grid.{Grid}
@@ -64,6 +64,10 @@ module _ (g : Grid) (profile reaches : List ℕ) (R t x : ℕ) (at : Pixel g pro
   pub past : (s : ℕ) → entry g z ≤ s → (OnPage g u z s → ⊥) → lineSteps g R x ≤ s - entry g z
   unfolding lineSteps steps
   past s h off = by-cases (decLt s (leave g u z)) (λ k. absurd (off (on-page g (at .sized) u z s h k))) (λ k. omega arith)
+
+  -- the line's last step, b steps on
+  last-step : (b : ℕ) → OnPage g u z (t + b) → (OnPage g u z (t + suc b) → ⊥) → lineSteps g R x ≡ suc (number g R x + b)
+  last-step b there off = omega (arith, numbered, counted (t + b) there, past (t + suc b) (omega (arith, numbered)) off)
 
   -- ---- backward
 
@@ -226,6 +230,29 @@ module _ (g : Grid) (profile reaches : List ℕ) (R t x : ℕ) (at : Pixel g pro
           let r = result-short (g .length) (lineSteps g R x) (g .back) (g .on) first (at .sized .length-is) (g .low) (along g f u z) fits (following - entry g z) following-is inside far in
           moved f _ _ (r .0 ∙ rest f, r .1)
 
+    -- the window ends past the line's last step, which is b steps on
+    module _ (b : ℕ) (cut : b ≤ g .on) (there : OnPage g u z (t + b)) (off : OnPage g u z (t + suc b) → ⊥) where
+      ended : lineSteps g R x ≡ suc (first + (g .back + b))
+      ended = omega (arith, numbered, last-step b there off)
+
+      last-is : t + b - entry g z ≡ first + (g .back + b)
+      last-is = omega (arith, numbered)
+
+      pub made-within : (f : Page) → g .back + b ≤ (t + b - entry g z) % g .length
+          → (toEndAt g f (rowAt g u (t - g .back)) (columnAt g z (t - g .back)) ≡ windowedAt g f R x) × (0 ≡ resultingAt g R x)
+      made-within f far =
+          let r = result-within (g .length) (lineSteps g R x) (g .back) (g .on) first (at .sized .length-is) (g .low) (along g f u z) fits (g .back + b) ended (omega arith) (rw last-is at far) in
+          moved f _ _ (r .0 ∙ rest f, r .1)
+
+      pub made-last : (f : Page) → (t + b - entry g z) % g .length < g .back + b
+          → (chosen (g .low) (toEndAt g f (rowAt g u (t - g .back)) (columnAt g z (t - g .back))) (fromStartAt g f (rowAt g u (t + b)) (columnAt g z (t + b))) ≡ windowedAt g f R x)
+          × (1 ≡ resultingAt g R x)
+      made-last f near =
+          let r = result-last (g .length) (lineSteps g R x) (g .back) (g .on) first (at .sized .length-is) (g .low) (along g f u z) fits (g .back + b) ended (omega arith) (rw last-is at near) in
+          let other : fromStart (g .low) (g .length) (along g f u z) (first + (g .back + b)) ≡ fromStartAt g f (rowAt g u (t + b)) (columnAt g z (t + b)) =
+          ap (fromStart (g .low) (g .length) (along g f u z)) (sym last-is) ∙ sym (fromStart-on g (at .sized) u z (t + b) small there f) in
+          moved f _ _ (r .0 ∙ ap₂ (chosen (g .low)) (rest f) other, r .1)
+
   -- the window begins before the line
   module _ (early : number g R x < g .back) where
     told : (f : Page) (v c : ℕ) → (windowed (g .low) (lineSteps g R x) (g .back) (g .on) (along g f u z) (number g R x) ≡ v) × (resulting (g .length) (lineSteps g R x) (g .back) (g .on) (number g R x) ≡ c) → (v ≡ windowedAt g f R x) × (c ≡ resultingAt g R x)
@@ -249,3 +276,10 @@ module _ (g : Grid) (profile reaches : List ℕ) (R t x : ℕ) (at : Pixel g pro
         let none : entry g z - entry g z ≡ 0 = omega arith in
         let r = result-all (g .length) (lineSteps g R x) (g .back) (g .on) (number g R x) (at .sized .length-is) early in-line (g .low) (along g f u z) (omega (arith, numbered)) in
         told f _ _ (r .0 ∙ ap (toEnd (g .low) (g .length) (steps g u z) (along g f u z)) (sym none) ∙ sym (toEnd-on g (at .sized) u z (entry g z) small entering f), r .1)
+
+    pub made-short-line : (f : Page) (b : ℕ) → b ≤ g .on → OnPage g u z (t + b) → (OnPage g u z (t + suc b) → ⊥)
+        → (fromStartAt g f (rowAt g u (t + b)) (columnAt g z (t + b)) ≡ windowedAt g f R x) × (0 ≡ resultingAt g R x)
+    made-short-line f b cut there off =
+        let last : number g R x + b ≡ t + b - entry g z = omega (arith, numbered) in
+        let r = result-short-line (g .length) (lineSteps g R x) (g .back) (g .on) (number g R x) (at .sized .length-is) early in-line (g .low) (along g f u z) (number g R x + b) (last-step b there off) (omega arith) in
+        told f _ _ (r .0 ∙ ap (fromStart (g .low) (g .length) (along g f u z)) last ∙ sym (fromStart-on g (at .sized) u z (t + b) small there f), r .1)

@@ -1,8 +1,8 @@
 -- A part of a row made by runs is a part of its sweep, if what was read is what the sweep makes. Assumes nothing.
 use mathlib.Core.Path.{_≡_, refl, sym, ap, _∙_}
-use mathlib.Core.Bool.{Bool, cond}
+use mathlib.Core.Bool.{Bool, true, false, cond}
 use mathlib.Core.List.{List}
-use mathlib.Core.Logic.{by-cases}
+use mathlib.Core.Logic.{_⊎_, ⊎-elim, by-cases}
 use Prim.Native.Nat.{ℕ, _+_, _-_, _*_, _≤_, _<_}
 use native.Mathlib.Nat.{mul-zero, mul-one}
 use native.Mathlib.Decide.{decLt}
@@ -13,11 +13,11 @@ use borrow.Author.Tests.{eq-eqb, ne-eqb}
 use Rattle.sweep.specs.Span.{chosen}
 use Rattle.sweep.specs.Grid.{Page}
 use Rattle.sweep.specs.Sweeps.{Ready, PartDone, target, newAt, costAt, total}
-use Rattle.sweep.specs.Runs.{Copied, Chosen, inBlock, Walked}
+use Rattle.sweep.specs.Runs.{Copied, Chosen, ChosenUnless, keptOr, comparedOf, inBlock, Walked}
 use Rattle.sweep.specs.declared.Grid.{Grid}
 use Rattle.sweep.specs.declared.Plan.{Plan}
 use Rattle.sweep.specs.declared.Sweep.{Sweep}
-use Rattle.sweep.proofs.Rowing.{total-same, total-alike}
+use Rattle.sweep.proofs.Rowing.{total-same, total-alike, total-shift}
 
 module _ (sweep : Sweep) (g : Grid) (R : ℕ) (old : List ℕ) where
   -- a value that the sweep makes at column y with no comparison, and one that it makes with one
@@ -82,6 +82,46 @@ module _ (sweep : Sweep) (g : Grid) (R : ℕ) (old : List ℕ) where
       all =
           let same : total (costAt sweep g R) lo (hi - lo) ≡ (hi - lo) * 1 = total-same (costAt sweep g R) 1 lo (hi - lo) (λ y l k. sym (each y l (omega arith) .1)) in
           omega (arith, mul-one (hi - lo))
+
+  -- columns that are kept or chosen, each as it is told
+  module _ (keeps : ℕ → Bool) (lo hi to first second : ℕ) (new : List ℕ) where
+    abbrev pub Told : ℕ → Type 0
+    Told y =
+        ((keeps (y - lo) ≡ true) × Free (getD old (first + (y - lo)) 0) y)
+        ⊎ ((keeps (y - lo) ≡ false) × Charged (chosen (g .low) (getD old (first + (y - lo)) 0) (getD old (second + (y - lo)) 0)) y)
+
+    pub unless-part : (count : ℕ) → lo ≤ hi → to ≡ base + lo → ChosenUnless (g .low) keeps to first second (hi - lo) old new → count ≡ total (comparedOf keeps) 0 (hi - lo)
+        → ((y : ℕ) → lo ≤ y → y < hi → Told y) → PartDone sweep g R lo hi old new count
+    unfolding keptOr
+    unless-part count h is made so-many each =
+        record {
+          kept =
+              record {
+                same-length = made .kept .same-length;
+                below = λ k l. made .kept .below k (omega arith);
+                above = λ k l. made .kept .above k (omega arith);
+              };
+          made = λ f ready y l k.
+              let place : base + y ≡ to + (y - lo) = omega arith in
+              let a : ℕ = getD old (first + (y - lo)) 0 in
+              let c : ℕ = getD old (second + (y - lo)) 0 in
+              ap (λ (i : ℕ). getD new i 0) place
+              ∙ made .made (y - lo) (omega arith)
+              ∙ ⊎-elim
+              (λ w. ap (λ (q : Bool). cond q a (chosen (g .low) a c)) (w .0) ∙ w .1 .0 f (ready y l k))
+              (λ w. ap (λ (q : Bool). cond q a (chosen (g .low) a c)) (w .0) ∙ w .1 .0 f (ready y l k))
+              (each y l k);
+          counted = so-many ∙ total-shift (comparedOf keeps) (costAt sweep g R) 0 lo (hi - lo) (λ k l. charge k l);
+        }
+      where
+        charge : (k : ℕ) → k < hi - lo → comparedOf keeps (0 + k) ≡ costAt sweep g R (lo + k)
+        charge k l =
+            let from : 0 + k ≡ lo + k - lo = omega arith in
+            ap (comparedOf keeps) from
+            ∙ ⊎-elim
+            (λ w. ap (λ (q : Bool). cond q 0 1) (w .0) ∙ w .1 .1)
+            (λ w. ap (λ (q : Bool). cond q 0 1) (w .0) ∙ w .1 .1)
+            (each (lo + k) (omega arith) (omega arith))
 
   -- columns that a plan makes
   pub walked-part : (p : Plan) (new : List ℕ) (count : ℕ) → p .lo ≤ p .hi → p .to ≡ base + p .lo → Walked g R p (p .hi) old new count

@@ -78,6 +78,14 @@ module _ (g : Grid) (profile reaches : List ℕ) (R t x : ℕ) (at : Pixel g pro
   read-on bytes f (suc b) there own rows =
       read-A bytes f (suc R) (min (g .height) (suc (R + suc b * g .period))) (t + suc b) there (row-later (t + suc b) (omega arith)) (omega (arith, row-fits g (at .sized) u₀ z₀ (t + suc b) (small g profile reaches R t x at) there, row-on (suc b))) rows
 
+  -- the same where rows further on are there too
+  pub read-within : (bytes : List ℕ) (f : Page) (b on : ℕ) → b ≤ on → OnPage g u₀ z₀ (t + b) → getD bytes (R * g .width + x) 0 ≡ f R x → RowsHold bytes 0 g f (suc R) (min (g .height) (suc (R + on * g .period)))
+      → getD bytes (spot g u₀ z₀ (t + b)) 0 ≡ f (rowAt g u₀ (t + b)) (columnAt g z₀ (t + b))
+  unfolding RowsHold
+  read-within bytes f b on near there own rows =
+      let less : b * g .period ≤ on * g .period = mul-le-mul-right (g .period) near in
+      read-on bytes f b there own (λ r lo hi y h. rows r lo (omega arith) y h)
+
   -- a result that is made of two: its first part
   module _ (bytes : List ℕ) (inside rest : ℕ) (across : Across g bytes R t x inside rest) where
     pub inside-first : 0 < (number g R x - g .back) % g .length

@@ -66,6 +66,12 @@ module _ (g : Grid) (profile reaches : List ℕ) (R t : ℕ) (at : Row g profile
       let rises : drift (g .line) s ≤ drift (g .line) t = drift-rises (g .line) (at .sized .sound) h in
       omega (arith, row-room (R - t * g .period + s * g .period) (omega (arith, back-row s h, at .row)))
 
+  -- the places of a step of columns up to one whose line has it
+  pub place-fits : (s lo hi : ℕ) → lo < hi → hi ≤ g .width → drift (g .line) t ≤ lo + drift (g .line) s → OnPage g (startRow g R) (lineName g R (hi - 1)) s → placeAt g R t s lo + (hi - lo) ≤ size g
+  unfolding placeAt
+  place-fits s lo hi some most reached last =
+      omega (arith, row-room (R - t * g .period + s * g .period) (omega (arith, last .row, target-is s)), last .right, last .left, name g profile reaches R t at (hi - 1) (omega arith))
+
   -- ---- edges of a step
 
   module _ (lo s : ℕ) (most : lo ≤ g .width) (reached : drift (g .line) t ≤ lo) where
@@ -102,14 +108,13 @@ module _ (g : Grid) (profile reaches : List ℕ) (R t : ℕ) (at : Row g profile
       edge-row = omega (arith, last .row, target-is s)
 
       pub place-edge-fits : placeAt g R t s lo + (hi - lo) ≤ size g
-      unfolding placeAt
-      place-edge-fits = omega (arith, row-room (R - t * g .period + s * g .period) edge-row, last .right, last .left, edge .most, name g profile reaches R t at (hi - 1) (omega (arith, edge .most)))
+      place-edge-fits = place-fits s lo hi some (edge .most) (omega arith) last
 
-  pub place-shift : (s lo y : ℕ) → lo ≤ y → drift (g .line) t ≤ lo → placeAt g R t s lo + (y - lo) ≡ placeAt g R t s y
+  pub place-shift : (s lo y : ℕ) → lo ≤ y → drift (g .line) t ≤ lo + drift (g .line) s → placeAt g R t s lo + (y - lo) ≡ placeAt g R t s y
   unfolding placeAt
   place-shift s lo y on reached = omega arith
 
-  module _ (y : ℕ) (column : y < g .width) (reached : drift (g .line) t ≤ y) where
+  module _ (y : ℕ) (column : y < g .width) where
     pub place-is : (s : ℕ) → OnPage g (startRow g R) (lineName g R y) s → placeAt g R t s y ≡ spot g (startRow g R) (lineName g R y) s
     unfolding placeAt rowAt columnAt
     place-is s there =
@@ -119,6 +124,7 @@ module _ (g : Grid) (profile reaches : List ℕ) (R t : ℕ) (at : Row g profile
         columns : y + drift (g .line) s - drift (g .line) t ≡ g .width + drift (g .line) s - lineName g R y
         columns = omega (arith, name g profile reaches R t at y column)
 
+  module _ (y : ℕ) (column : y < g .width) (reached : drift (g .line) t ≤ y) where
     pub entered-first : entryAt g R y ≡ 0
     unfolding entryAt
     entered-first = sym (entry-zero g profile reaches R t y (pixel g profile reaches R t at y column) reached)
@@ -140,7 +146,7 @@ module _ (g : Grid) (profile reaches : List ℕ) (R t : ℕ) (at : Row g profile
     read : (s : ℕ) → OnPage g (startRow g R) (lineName g R y) s → size g + placeAt g R t s mid + (y - mid) ≡ size g + spot g (startRow g R) (lineName g R y) s
     read s there =
         let sum : size g + placeAt g R t s mid + (y - mid) ≡ size g + (placeAt g R t s mid + (y - mid)) = omega arith in
-        sum ∙ ap (λ (q : ℕ). size g + q) (place-shift s mid y on reached ∙ place-is y column reached-y s there)
+        sum ∙ ap (λ (q : ℕ). size g + q) (place-shift s mid y on (omega arith) ∙ place-is y column s there)
 
     pub early-free : t < g .back → Free Result g R old (getD old (size g + placeAt g R t 0 mid + (y - mid)) 0) y
     unfolding Ready newAt costAt entryAt

@@ -2,7 +2,7 @@
 use mathlib.Core.Path.{_≡_, refl, sym, ap, ap₂, _∙_}
 use mathlib.Core.Bool.{Bool, true, false, cond}
 use mathlib.Core.List.{List}
-use mathlib.Core.Logic.{⊎-elim, by-cases}
+use mathlib.Core.Logic.{_⊎_, inl, inr, ⊎-elim, by-cases}
 use Prim.Native.Nat.{ℕ, _+_, _-_, _*_, _%_, _≤_, _<_, min}
 use native.Mathlib.Nat.{mod-lt, mod-eq-of-lt, mod-add-mod, add-mod-right, add-comm, zero-add, mul-zero, mul-one, mul-le-mul-left}
 use native.Mathlib.Decide.{decLt}
@@ -63,14 +63,17 @@ module _ (g : Grid) (profile reaches : List ℕ) (R t : ℕ) (at : Row g profile
 
 -- ---- which pixels begin a block
 
--- two steps are as far into their blocks if the distance between them is whole blocks
-eqb-mod : (L e T : ℕ) → 0 < L → e ≤ T → eqb (e % L) (T % L) ≡ eqb ((T - e) % L) 0
-eqb-mod L e T long h =
-    by-cases (decLt 0 ((T - e) % L))
-    (λ some. ne-eqb (e % L) (T % L) (λ same. absurd (differs some same)) ∙ sym (ne-eqb ((T - e) % L) 0 (λ none. omega arith)))
-    (λ none.
-    let whole : (T - e) % L ≡ 0 = omega arith in
-    eq-eqb (e % L) (T % L) (sym (sum ∙ ap (λ (q : ℕ). (q + e % L) % L) whole ∙ ap (λ (q : ℕ). q % L) (zero-add (e % L)) ∙ mod-eq-of-lt (mod-lt e long))) ∙ sym (eq-eqb ((T - e) % L) 0 whole))
+-- how far into its block a step is, from how far an earlier one is and the distance between them
+pub mod-sum : (L e T : ℕ) → 0 < L → e ≤ T → (T % L ≡ (T - e) % L + e % L) ⊎ (T % L + L ≡ (T - e) % L + e % L)
+mod-sum L e T long h =
+    by-cases (decLt ((T - e) % L + e % L) L)
+    (λ below. inl (sum ∙ mod-eq-of-lt below))
+    (λ past.
+    let rest : ℕ = (T - e) % L + e % L - L in
+    let low : rest < L = omega (arith, mod-lt (T - e) long, mod-lt e long) in
+    let is : (T - e) % L + e % L ≡ rest + L = omega arith in
+    let back : ((T - e) % L + e % L) % L ≡ rest = ap (λ (q : ℕ). q % L) is ∙ add-mod-right rest L ∙ mod-eq-of-lt low in
+    inr (omega (arith, sum)))
   where
     -- the remainder of a sum
     sum : T % L ≡ ((T - e) % L + e % L) % L
@@ -78,16 +81,25 @@ eqb-mod L e T long h =
         let cut : T ≡ e + (T - e) = omega arith in
         ap (λ (q : ℕ). q % L) cut ∙ sym (mod-add-mod e L (T - e)) ∙ ap (λ (q : ℕ). q % L) (add-comm (e % L) (T - e)) ∙ sym (mod-add-mod (T - e) L (e % L))
 
-    differs : 0 < (T - e) % L → e % L ≡ T % L → ⊥
-    differs some same =
-        by-cases (decLt ((T - e) % L + e % L) L)
-        (λ below. omega (arith, sum, mod-eq-of-lt below))
-        (λ past.
-        let rest : ℕ = (T - e) % L + e % L - L in
-        let low : rest < L = omega (arith, mod-lt (T - e) long, mod-lt e long) in
-        let is : (T - e) % L + e % L ≡ rest + L = omega arith in
-        let back : ((T - e) % L + e % L) % L ≡ rest = ap (λ (q : ℕ). q % L) is ∙ add-mod-right rest L ∙ mod-eq-of-lt low in
-        omega (arith, sum, mod-lt (T - e) long))
+-- two steps are as far into their blocks if the distance between them is whole blocks
+eqb-mod : (L e T : ℕ) → 0 < L → e ≤ T → eqb (e % L) (T % L) ≡ eqb ((T - e) % L) 0
+eqb-mod L e T long h =
+    by-cases (decLt 0 ((T - e) % L))
+    (λ some. ne-eqb (e % L) (T % L) (λ same. absurd (⊎-elim (λ w. omega arith) (λ w. omega (arith, mod-lt (T - e) long)) (mod-sum L e T long h))) ∙ sym (ne-eqb ((T - e) % L) 0 (λ none. omega arith)))
+    (λ none.
+    let whole : (T - e) % L ≡ 0 = omega arith in
+    let same : e % L ≡ T % L = ⊎-elim (λ w. omega arith) (λ w. absurd (omega (arith, mod-lt e long))) (mod-sum L e T long h) in
+    eq-eqb (e % L) (T % L) same ∙ sym (eq-eqb ((T - e) % L) 0 whole))
+
+-- where its line entered from the side, a pixel's mark says when
+pub mark-entered : (g : Grid) (profile reaches : List ℕ) (R t : ℕ) (at : Row g profile reaches R t) (marks : List ℕ) (y place : ℕ) → Marked g marks → y < g .width → y < drift (g .line) t → place ≡ y + g .height - drift (g .line) t
+    → getD marks place 0 ≡ entryAt g R y % g .length
+unfolding entryAt
+mark-entered g profile reaches R t at marks y place marked column side is =
+    let low = here g profile reaches R t at .drift-below in
+    let v : ℕ = drift (g .line) t - y in
+    let entered : reach (g .line) v (g .height) ≡ entryAt g R y = sym (at .tabled .reaches-is v (omega arith)) ∙ entry-reach g profile reaches R t y (pixel g profile reaches R t at y column) side in
+    ap (λ (i : ℕ). getD marks i 0) (omega arith) ∙ marked .mark-is v (omega arith) (omega arith) ∙ ap (λ (q : ℕ). q % g .length) entered
 
 module _ (g : Grid) (profile reaches : List ℕ) (R t : ℕ) (at : Row g profile reaches R t) (p : Plan) (planned : Planned g R p) where
   long : 0 < g .length
@@ -100,13 +112,8 @@ module _ (g : Grid) (profile reaches : List ℕ) (R t : ℕ) (at : Row g profile
   -- where its line entered from the side, a pixel's mark says it
   side-keeps : (marks : List ℕ) (y place : ℕ) → Marked g marks → p .lo ≤ y → y < p .hi → y < drift (g .line) t → place ≡ y + g .height - drift (g .line) t
       → eqb (getD marks place 0) (p .top % g .length) ≡ eqb (inBlock g R p y) 0
-  unfolding entryAt
   side-keeps marks y place marked l h side is =
-      let low = here g profile reaches R t at .drift-below in
-      let v : ℕ = drift (g .line) t - y in
-      let read : getD marks place 0 ≡ reach (g .line) v (g .height) % g .length = ap (λ (i : ℕ). getD marks i 0) (omega arith) ∙ marked .mark-is v (omega arith) (omega arith) in
-      let entered : reach (g .line) v (g .height) ≡ entryAt g R y = sym (at .tabled .reaches-is v (omega arith)) ∙ entry-reach g profile reaches R t y (pixel g profile reaches R t at y (omega (arith, planned .columns))) side in
-      ap (λ (q : ℕ). eqb q (p .top % g .length)) (read ∙ ap (λ (q : ℕ). q % g .length) entered) ∙ inside y l h
+      ap (λ (q : ℕ). eqb q (p .top % g .length)) (mark-entered g profile reaches R t at marks y place marked (omega (arith, planned .columns)) side is) ∙ inside y l h
 
   -- the spare marks say it of some that entered in the first row
   spare-keeps : (marks : List ℕ) (y place : ℕ) → Marked g marks → p .lo ≤ y → y < p .hi → drift (g .line) t ≤ y → y < drift (g .line) t + 32 → place ≡ y + g .height - drift (g .line) t

@@ -5,7 +5,7 @@ use mathlib.Core.Path.{_≡_, refl, sym, ap, _∙_}
 use mathlib.Core.Bool.{Bool, true, false, _||_, cond}
 use mathlib.Core.Logic.{_⊎_, inl, inr, ⊎-elim, by-cases}
 use Prim.Native.Nat.{ℕ, zero, suc, _+_, _-_, _*_, _/_, _%_, _≤_, _<_, min}
-use native.Mathlib.Nat.{suc-mod, mod-self, mod-eq-of-lt, mod-lt, mod-le, add-mod-right, mod-add-mod, mul-add-div, div-add-mod, div-eq-of-lt, div-eq-sub-div, add-sub-cancel, add-assoc, zero-add, mul-mod-right}
+use native.Mathlib.Nat.{suc-mod, mod-self, mod-eq-of-lt, mod-lt, mod-le, add-mod-right, mod-add-mod, mul-add-div, div-add-mod, div-eq-of-lt, div-eq-sub-div, add-sub-cancel, add-assoc, mul-mod-right}
 use native.Mathlib.Decide.{decLt}
 use native.Mathlib.Omega.{arith}
 use lib.Dec.{eqb}
@@ -89,6 +89,18 @@ before-end L a b s q whole r p = omega arith
 min-cut : (e q L n : ℕ) → q ≡ 0 → n ≤ e + L → min (e - q + (L - 1)) (n - 1) ≡ n - 1
 min-cut e q L n z h = omega arith
 
+-- d steps on from a step, less than a block, the same block or the next
+mod-on : (L s d : ℕ) → 0 < L → s % L + d < L → (s + d) % L ≡ s % L + d
+mod-on L s d h k = sym (mod-add-mod s L d) ∙ mod-eq-of-lt k
+
+mod-past : (L s d : ℕ) → 0 < L → d < L → L ≤ s % L + d → (s + d) % L + L ≡ s % L + d
+mod-past L s d h k past =
+    let rest : ℕ = s % L + d - L in
+    let is : s % L + d ≡ rest + L = omega arith in
+    let low : rest < L = omega (arith, mod-lt s h) in
+    let back : (s + d) % L ≡ rest = sym (mod-add-mod s L d) ∙ ap (λ (q : ℕ). q % L) is ∙ add-mod-right rest L ∙ mod-eq-of-lt low in
+    omega arith
+
 module _ (L n a b s : ℕ) (whole : L ≡ suc (a + b)) where
   -- the cost, once it is known where the window ends
   cost-none : (d : ℕ) → min (s + a + b) (n - 1) ≡ s + d → s % L + d < L → resulting L n a b (s + a) ≡ 0
@@ -123,7 +135,7 @@ module _ (L n a b s : ℕ) (whole : L ≡ suc (a + b)) where
     result-block z on =
         let h : 0 < L = omega arith in
         let last : min (s + a + b) (n - 1) ≡ s + a + b = omega arith in
-        let far : (s + a + b) % L ≡ a + b = ap (λ (i : ℕ). i % L) (add-assoc s a b) ∙ sym (mod-add-mod s L (a + b)) ∙ ap (λ (i : ℕ). (i + (a + b)) % L) z ∙ ap (λ (i : ℕ). i % L) (zero-add (a + b)) ∙ mod-eq-of-lt (omega arith) in
+        let far : (s + a + b) % L ≡ a + b = ap (λ (i : ℕ). i % L) (add-assoc s a b) ∙ mod-on L s (a + b) h (omega arith) ∙ omega arith in
         let begins : s ≡ s + a + b - (s + a + b) % L = omega arith in
         ap (λ (i : ℕ). span low f i (min (s + a + b) (n - 1))) (add-sub-cancel s a) ∙ ap (span low f s) last ∙ ap (λ (i : ℕ). span low f i (s + a + b)) begins
 
@@ -191,6 +203,42 @@ module _ (L n a b s : ℕ) (whole : L ≡ suc (a + b)) where
           cost-none (n - 1 - s) (omega arith) (omega arith),
         )
 
+    -- one that the line's last step cuts, d steps after the window's first: in that step's block, if it is that far into it
+    module _ (d : ℕ) (last : n ≡ suc (s + d)) (cut : d ≤ a + b) where
+      ends : min (s + a + b) (n - 1) ≡ s + d
+      ends = omega arith
+
+      pub result-within : d ≤ (s + d) % L → (windowed low n a b f (s + a) ≡ toEnd low L n f s) × (resulting L n a b (s + a) ≡ 0)
+      unfolding windowed toEnd blockEnd blockStart
+      result-within far =
+          let h : 0 < L = omega arith in
+          let r : s % L ≤ s = mod-le s L in
+          let same : s % L + d < L =
+          by-cases (decLt (s % L + d) L) (λ k. k) (λ k. absurd (omega (arith, mod-past L s d h (omega arith) (omega arith), mod-lt s h))) in
+          let upto : min (s - s % L + (L - 1)) (n - 1) ≡ s + d = omega arith in (
+            ap (λ (i : ℕ). span low f i (min (s + a + b) (n - 1))) (add-sub-cancel s a) ∙ ap (span low f s) (ends ∙ sym upto),
+            cost-none d ends same,
+          )
+
+      pub result-last : (s + d) % L < d
+          → (windowed low n a b f (s + a) ≡ chosen low (toEnd low L n f s) (fromStart low L f (s + d))) × (resulting L n a b (s + a) ≡ 1)
+      unfolding windowed toEnd fromStart blockEnd blockStart
+      result-last near =
+          let h : 0 < L = omega arith in
+          let q : s % L < L = mod-lt s h in
+          let r : s % L ≤ s = mod-le s L in
+          let past : L ≤ s % L + d = by-cases (decLt (s % L + d) L) (λ k. absurd (omega (arith, mod-on L s d h k))) (λ k. omega arith) in
+          let e : (s + d) % L + L ≡ s % L + d = mod-past L s d h (omega arith) past in
+          let upto : min (s - s % L + (L - 1)) (n - 1) ≡ s - s % L + (L - 1) = omega arith in
+          let begins : s + d - (s + d) % L ≡ suc (s - s % L + (L - 1)) = omega arith in (
+            ap (λ (i : ℕ). span low f i (min (s + a + b) (n - 1))) (add-sub-cancel s a)
+                ∙ ap (span low f s) ends
+                ∙ span-join low f s (s - s % L + (L - 1)) (s + d) (in-block L s (s % L) q r) (omega arith)
+                ∙ ap (λ (i : ℕ). chosen low (span low f s i) (span low f (suc (s - s % L + (L - 1))) (s + d))) (sym upto)
+                ∙ ap (λ (i : ℕ). chosen low (span low f s (min (s - s % L + (L - 1)) (n - 1))) (span low f i (s + d))) (sym begins),
+            cost-one d ends past,
+          )
+
 -- ---- results near the line's first step: the window begins there
 
 module _ (L n a b j : ℕ) (whole : L ≡ suc (a + b)) (early : j < a) (inLine : j < n) (low : Bool) (f : ℕ → ℕ) where
@@ -217,3 +265,13 @@ module _ (L n a b j : ℕ) (whole : L ≡ suc (a + b)) (early : j < a) (inLine :
       let m : 0 % L ≡ 0 = mod-eq-of-lt (omega arith) in
       let last : min (j + b) (n - 1) ≡ min (0 - 0 % L + (L - 1)) (n - 1) = omega arith in
       (ap (λ (i : ℕ). span low f i (min (j + b) (n - 1))) begins ∙ ap (span low f 0) last, early-cost)
+
+  -- a line shorter than a block, whose last step is e
+  pub result-short-line : (e : ℕ) → n ≡ suc e → e ≤ j + b → (windowed low n a b f j ≡ fromStart low L f e) × (resulting L n a b j ≡ 0)
+  unfolding windowed fromStart blockStart
+  result-short-line e is near =
+      let begins : j - a ≡ 0 = omega arith in
+      let m : e % L ≡ e = mod-eq-of-lt (omega arith) in
+      let start : e - e % L ≡ 0 = omega arith in
+      let last : min (j + b) (n - 1) ≡ e = omega arith in
+      (ap (λ (i : ℕ). span low f i (min (j + b) (n - 1))) (begins ∙ sym start) ∙ ap (span low f (e - e % L)) last, early-cost)

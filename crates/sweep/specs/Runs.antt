@@ -8,7 +8,7 @@ use mathlib.Core.Logic.{_⊎_}
 use mathlib.Core.Path.{_≡_}
 use mathlib.Core.List.{List}
 use lib.ListN.{length, getD}
-use lib.Dec.{eqb}
+use lib.Dec.{eqb, leb, ltb}
 use Rattle.sweep.specs.Span.{chosen}
 use Rattle.sweep.specs.Grid.{startRow, lineName, entry, Sized, Tabled}
 use Rattle.sweep.specs.GridLaws.{OnPage}
@@ -17,6 +17,7 @@ use Rattle.geometry.specs.Drift.{drift, reach}
 use Rattle.geometry.specs.Line.{stepOf}
 use Rattle.sweep.specs.declared.Grid.{Grid}
 use Rattle.sweep.specs.declared.Plan.{Plan}
+use Rattle.sweep.specs.declared.Within.{Within}
 
 -- n bytes read from one place while n are written to another, from the first to the last: none is read that was written
 abbrev pub Apart : ℕ → ℕ → ℕ → Type 0
@@ -72,7 +73,7 @@ pub record FarEdge (g : Grid) (R t b x : ℕ) : Type 0 where
 unfoldable pub placeOn : Grid → ℕ → ℕ → ℕ → ℕ
 placeOn g R t b = (R + b * g .period) * g .width + (drift (g .line) (t + b) - drift (g .line) t)
 
--- the place in a page of a step of the line of column x, for columns at or past the row's drift
+-- the place in a page of a step of the line of column x
 unfoldable pub placeAt : Grid → ℕ → ℕ → ℕ → ℕ → ℕ
 placeAt g R t s x = (R - t * g .period + s * g .period) * g .width + (x + drift (g .line) s - drift (g .line) t)
 
@@ -95,6 +96,31 @@ pub record Marked (g : Grid) (marks : List ℕ) : Type 0 where
   pub long : g .height + 32 ≤ length marks
   pub zero-is : (j : ℕ) → j < 32 → getD marks (g .height + j) 0 ≡ 0
   pub mark-is : (v : ℕ) → 1 ≤ v → v < g .height → getD marks (g .height - v) 0 ≡ reach (g .line) v (g .height) % g .length
+
+-- columns from lo up to hi whose lines entered from the side and leave the page at its bottom: their last step is b steps on, and their
+-- windows end past it
+pub record AtBottom (g : Grid) (R t b lo hi : ℕ) : Type 0 where
+  pub most : hi ≤ g .width
+  pub side : hi ≤ drift (g .line) t
+  pub row : R + b * g .period < g .height
+  pub bottom : g .height ≤ R + suc b * g .period
+  pub there : (y : ℕ) → lo ≤ y → y < hi → OnPage g (startRow g R) (lineName g R y) (t + b)
+  pub past : b < g .on
+
+-- columns from lo up to hi whose windows begin in the line
+abbrev pub Begun : Grid → ℕ → ℕ → ℕ → ℕ → Type 0
+Begun g R t lo hi = (y : ℕ) → lo ≤ y → y < hi → entryAt g R y + g .back ≤ t
+
+-- whether a window that is cut at its line's last step lies in that step's block, by the line's mark; `last` is the step's place in a block
+-- of the page, and the line's own block begins nearer to it or further up as its mark is up to `last` or past it
+unfoldable pub inOneBlock : ℕ → ℕ → ℕ → ℕ → Bool
+inOneBlock last near far mark = ltb mark (cond (leb mark last) near far)
+
+-- for windows that begin back steps before step t, in lines that end b steps after it
+pub record WithinAt (g : Grid) (t b : ℕ) (w : Within) : Type 0 where
+  pub last-is : w .last ≡ (t + b) % g .length
+  pub near-is : w .near ≡ suc (w .last) - (g .back + b)
+  pub far-is : w .far ≡ suc (w .last) + g .length - (g .back + b)
 
 -- how far the line of a pixel is from its block's first step, for lines cut from step `top` downwards
 unfoldable pub inBlock : Grid → ℕ → Plan → ℕ → ℕ

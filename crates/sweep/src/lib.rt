@@ -12,10 +12,12 @@
 //     marks   where the lines of side columns are in their blocks
 //     run     runs of neighbouring bytes: copied, or compared and counted
 //     rest    results whose windows end past their line
+//     bottom  those of lines that leave at the page's bottom
 //     pixel   such a result by itself
 //     step    where the steps of a pixel's line stand
 use geometry::Line;
 
+mod bottom;
 mod marks;
 mod pixel;
 mod plans;
@@ -53,6 +55,14 @@ pub struct Plan {
     pub first: usize,
     pub second: usize,
     pub top: usize,
+}
+
+// The marks of lines whose windows, cut at the line's last step, lie in one block: of the marks up to `last` those below `near`, of the
+// others those below `far`.
+pub struct Within {
+    pub last: u16,
+    pub near: u16,
+    pub far: u16,
 }
 
 // The three sweeps of a pass.

@@ -1,5 +1,5 @@
-// Results at the page's far edge, where the window ends past its line: pixel by pixel, as lines that entered from the side each have their own
-// next block.
+// Results at the page's far edge, where the window ends past its line: pixel by pixel, as lines that entered from the side and leave before the
+// page's bottom each have their own next block.
 ghost use mathlib.Core.Path.{_≡_};
 ghost use Prim.Native.Nat.{_+_, _*_, _<_, _≤_};
 ghost use lib.ListN.{length, getD};

@@ -1,36 +1,21 @@
 // The results whose windows end past their line: the rest of a row, from the far edge on.
-// Lines that entered in the page's first row are all at the same step of their blocks, so they are made by runs. Those that entered from the
-// side each have their own next block and go one by one.
+// Lines that entered in the page's first row are all at the same step of their blocks, so they are made by runs. Of those that entered from the
+// side, the ones that leave at the page's bottom are too (bottom); the ones that leave before each have their own next block and last row, and
+// go one by one.
 ghost use mathlib.Core.Path.{_≡_};
-ghost use Prim.Native.Nat.{_+_, _*_, _-_, _%_, _≤_, _<_};
+ghost use Prim.Native.Nat.{_+_, _*_, _-_, _%_, _≤_, _<_, max};
 ghost use lib.ListN.{length};
 ghost use Rattle.geometry.specs.Drift.{drift};
-ghost use Rattle.sweep.specs.Runs.{Row, FarEdge, Copied, Chosen, placeAt, StepEdge, PastLine};
+ghost use Rattle.sweep.specs.Runs.{Row, FarEdge, Marked, Copied, Chosen, placeAt, StepEdge, PastLine};
 ghost use Rattle.sweep.specs.Sweeps.{PartDone, size};
 use super::Grid;
 use super::Sweep;
+use super::bottom;
 use super::pixel;
+use super::plans;
 use super::run;
 use super::step;
 use super::walk;
-
-// The place in a page of a step of the line of column x.
-fn place_at(
-    g: Grid,
-    profile: &[usize],
-    reaches: &[usize],
-    row: usize,
-    step: usize,
-    to: usize,
-    x: usize,
-) -> usize
-    requires { ⌜ Row g (now profile) (now reaches) row step × (row - step * g .period + to * g .period < g .height) ⌝ }
-    requires { ⌜ (to ≤ 32768) × (x ≤ g .width) × (drift (g .line) step ≤ x) ⌝ }
-    ensures { λ r. ⌜ r ≡ placeAt g row step to x ⌝ }
-{
-    let target = row - step * g.period + to * g.period;
-    target * g.width + (x + step::entry_of(profile, to) - step::entry_of(profile, step))
-}
 
 // The first column from lo on whose line has left the page by a step.
 fn step_edge(
@@ -75,7 +60,7 @@ fn copy_from(
     requires { ⌜ (lo ≤ g .width) × (drift (g .line) step ≤ lo) × (to ≤ step) ⌝ }
     ensures { λ _. ⌜ Copied (row * g .width + lo) (size g + placeAt g row step to lo) (g .width - lo) (now (bytes .entry)) (now (bytes .exit)) ⌝ }
 {
-    let from = g.height * g.width + place_at(g, profile, reaches, row, step, to, lo);
+    let from = g.height * g.width + step::place_at(g, profile, reaches, row, step, to, lo);
     run::copy_run(bytes, row * g.width + lo, from, g.width - lo);
 }
 
@@ -100,8 +85,8 @@ fn choose_from(
         return 0;
     }
     let size = g.height * g.width;
-    let first = size + place_at(g, profile, reaches, row, step, to, lo);
-    let second = size + place_at(g, profile, reaches, row, step, next, lo);
+    let first = size + step::place_at(g, profile, reaches, row, step, to, lo);
+    let second = size + step::place_at(g, profile, reaches, row, step, next, lo);
     run::choose_run(g.low, bytes, row * g.width + lo, first, second, hi - lo)
 }
 
@@ -167,25 +152,26 @@ fn rest_top(
     across_top(g, profile, reaches, bytes, row, step, mid, inside)
 }
 
-// The lines that entered from the side.
-fn rest_side(
+// The columns from lo up to hi, one by one.
+fn each_part(
     g: Grid,
     profile: &[usize],
     reaches: &[usize],
     bytes: &mut [u8],
     row: usize,
     step: usize,
+    far: usize,
+    lo: usize,
     hi: usize,
-    mid: usize,
 ) -> usize
     requires { ⌜ Row g (now profile) (now reaches) row step × (size g + size g ≤ length (now bytes)) ⌝ }
-    requires { ⌜ FarEdge g row step (g .on) hi × (hi ≤ mid) × (mid ≤ g .width) ⌝ }
-    ensures { λ r. ⌜ PartDone Sweep.Result g row hi mid (now (bytes .entry)) (now (bytes .exit)) r ⌝ }
+    requires { ⌜ FarEdge g row step (g .on) far × (far ≤ lo) × (lo ≤ hi) × (hi ≤ g .width) ⌝ }
+    ensures { λ r. ⌜ PartDone Sweep.Result g row lo hi (now (bytes .entry)) (now (bytes .exit)) r ⌝ }
 {
     let base = row * g.width;
     let mut count: usize = 0;
-    let mut x = hi;
-    while x < mid {
+    let mut x = lo;
+    while x < hi {
         let made = pixel::rest_at(g, profile, reaches, bytes, row, step, x);
         bytes[base + x] = made.value;
         count += made.count;
@@ -194,22 +180,50 @@ fn rest_side(
     count
 }
 
+// The lines that entered from the side. Where windows reach below the page, all of them end past their line, and the first columns are those
+// whose lines leave at the bottom.
+fn rest_side(
+    g: Grid,
+    profile: &[usize],
+    reaches: &[usize],
+    marks: &[u16],
+    bytes: &mut [u8],
+    row: usize,
+    step: usize,
+    hi: usize,
+    mid: usize,
+) -> usize
+    requires { ⌜ Row g (now profile) (now reaches) row step × (size g + size g ≤ length (now bytes)) × Marked g (now marks) ⌝ }
+    requires { ⌜ FarEdge g row step (g .on) hi × (hi ≤ mid) × (mid ≤ g .width) × (mid ≤ max hi (drift (g .line) step)) ⌝ }
+    ensures { λ r. ⌜ PartDone Sweep.Result g row hi mid (now (bytes .entry)) (now (bytes .exit)) r ⌝ }
+{
+    let b = bottom::steps_left(g, row);
+    if g.on <= b {
+        return each_part(g, profile, reaches, bytes, row, step, hi, hi, mid);
+    }
+    let end = walk::nearer(plans::far_edge(g, profile, reaches, row, step, b), mid);
+    let runs = bottom::bottom_part(g, profile, reaches, marks, bytes, row, step, b, end);
+    let others = each_part(g, profile, reaches, bytes, row, step, hi, end, mid);
+    runs + others
+}
+
 // The columns whose windows end past their line.
 pub fn rest_part(
     g: Grid,
     profile: &[usize],
     reaches: &[usize],
+    marks: &[u16],
     bytes: &mut [u8],
     row: usize,
     step: usize,
     hi: usize,
 ) -> usize
-    requires { ⌜ Row g (now profile) (now reaches) row step × (size g + size g ≤ length (now bytes)) ⌝ }
+    requires { ⌜ Row g (now profile) (now reaches) row step × (size g + size g ≤ length (now bytes)) × Marked g (now marks) ⌝ }
     requires { ⌜ FarEdge g row step (g .on) hi ⌝ }
     ensures { λ r. ⌜ PartDone Sweep.Result g row hi (g .width) (now (bytes .entry)) (now (bytes .exit)) r ⌝ }
 {
     let mid = walk::nearer(walk::later(hi, step::entry_of(profile, step)), g.width);
-    let side = rest_side(g, profile, reaches, bytes, row, step, hi, mid);
+    let side = rest_side(g, profile, reaches, marks, bytes, row, step, hi, mid);
     let top = rest_top(g, profile, reaches, bytes, row, step, mid);
     side + top
 }

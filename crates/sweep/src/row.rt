@@ -132,6 +132,6 @@ pub fn result_row(
     let hi = plans::far_edge(g, profile, reaches, row, step, g.on);
     early_part(g, profile, reaches, bytes, row, step, lo, hi);
     let across = across_part(g, profile, reaches, marks, bytes, row, step, lo, hi);
-    let rest = rest::rest_part(g, profile, reaches, bytes, row, step, hi);
+    let rest = rest::rest_part(g, profile, reaches, marks, bytes, row, step, hi);
     across + rest
 }

@@ -7,7 +7,7 @@ ghost use lib.Dec.{eqb};
 ghost use lib.ListN.{length, getD};
 ghost use Rattle.sweep.specs.Span.{chosen};
 ghost use Rattle.sweep.specs.Sweeps.{total};
-ghost use Rattle.sweep.specs.Runs.{Apart, Copied, Chosen, ChosenUnless, keptOr, comparedOf};
+ghost use Rattle.sweep.specs.Runs.{Apart, Copied, Chosen, ChosenUnless, keptOr, comparedOf, inOneBlock};
 
 // Of two values the lower, or the higher.
 pub fn chosen_of(low: bool, a: u8, b: u8) -> u8
@@ -152,6 +152,46 @@ pub fn mark_into(
     while k < n {
         let keeps = mark_at(marks, at + k) == mark;
         bytes[to + k] = kept_or_chosen(low, keeps, bytes[to + k], bytes[second + k]);
+        count += compared_of(keeps);
+        k += 1;
+    }
+    count as usize
+}
+
+// Whether a line's window lies in one block, by the line's mark.
+fn in_one_block(last: u16, near: u16, far: u16, mark: u16) -> bool
+    ensures { λ r. ⌜ r ≡ inOneBlock last near far mark ⌝ }
+{
+    if mark <= last {
+        mark < near
+    } else {
+        mark < far
+    }
+}
+
+// A run of which those bytes are kept whose mark says that their window lies in one block; at most 224, as above.
+pub fn block_run(
+    low: bool,
+    bytes: &mut [u8],
+    marks: &[u16],
+    at: usize,
+    last: u16,
+    near: u16,
+    far: u16,
+    to: usize,
+    first: usize,
+    second: usize,
+    n: usize,
+) -> usize
+    requires { ⌜ (to + n ≤ length (now bytes)) × (first + n ≤ length (now bytes)) × (second + n ≤ length (now bytes)) ⌝ }
+    requires { ⌜ Apart to first n × Apart to second n × (at + n ≤ length (now marks)) × (n ≤ 224) ⌝ }
+    ensures { λ r. ⌜ ChosenUnless low (λ k. inOneBlock last near far (getD (now (marks .entry)) (at + k) 0)) to first second n (now (bytes .entry)) (now (bytes .exit)) × (r ≡ total (comparedOf (λ k. inOneBlock last near far (getD (now (marks .entry)) (at + k) 0))) 0 n) ⌝ }
+{
+    let mut count: u8 = 0;
+    let mut k: usize = 0;
+    while k < n {
+        let keeps = in_one_block(last, near, far, mark_at(marks, at + k));
+        bytes[to + k] = kept_or_chosen(low, keeps, bytes[first + k], bytes[second + k]);
         count += compared_of(keeps);
         k += 1;
     }

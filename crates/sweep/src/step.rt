@@ -1,8 +1,10 @@
 // Where the steps of a pixel's line stand.
 ghost use mathlib.Core.Path.{_≡_};
-ghost use Prim.Native.Nat.{_+_, _*_, _<_, _≤_};
+ghost use Prim.Native.Nat.{_+_, _-_, _*_, _<_, _≤_};
 ghost use lib.ListN.{length, getD};
+ghost use Rattle.geometry.specs.Drift.{drift};
 ghost use Rattle.sweep.specs.Grid.{Pixel, startRow, lineName, entry, spot};
+ghost use Rattle.sweep.specs.Runs.{Row, placeAt};
 use super::Grid;
 
 // An entry of a table.
@@ -62,4 +64,22 @@ pub fn spot_at(
         return none;
     }
     target * g.width + column
+}
+
+// The place in a page of a step of the line of column x.
+pub fn place_at(
+    g: Grid,
+    profile: &[usize],
+    reaches: &[usize],
+    row: usize,
+    step: usize,
+    to: usize,
+    x: usize,
+) -> usize
+    requires { ⌜ Row g (now profile) (now reaches) row step × (row - step * g .period + to * g .period < g .height) ⌝ }
+    requires { ⌜ (to ≤ 32768) × (x ≤ g .width) × (drift (g .line) step ≤ x + drift (g .line) to) ⌝ }
+    ensures { λ r. ⌜ r ≡ placeAt g row step to x ⌝ }
+{
+    let target = row - step * g.period + to * g.period;
+    target * g.width + (x + entry_of(profile, to) - entry_of(profile, step))
 }

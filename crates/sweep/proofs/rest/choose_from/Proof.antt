@@ -28,7 +28,7 @@ place-at-requires c κs =
     let start = c .before .before .before .before .before in
     let at = start .pre .0 .0 in
     let edge = start .pre .1 .3 in
-    ((at, omega (arith, back-row _ _ _ _ _ at _ (start .pre .1 .1), at .row)), (omega (arith, start .pre .1 .1, here _ _ _ _ _ at .step-below, at .sized .height-most), omega (arith, edge .least, edge .most), start .pre .1 .0))
+    ((at, omega (arith, back-row _ _ _ _ _ at _ (start .pre .1 .1), at .row)), (omega (arith, start .pre .1 .1, here _ _ _ _ _ at .step-below, at .sized .height-most), omega (arith, edge .least, edge .most), omega (arith, start .pre .1 .0)))
 
 add-first : tie.Need-add-first
 add-first c =
@@ -43,7 +43,7 @@ place-at-requires-2 c κs =
     let at = start .pre .0 .0 in
     let edge = start .pre .1 .3 in
     let most = least-most (edge .least) (edge .most) in
-    ((at, edge-row _ _ _ _ _ at _ _ most (start .pre .1 .0) _ edge (omega (arith, c .before .before .if1 .left))), (start .pre .1 .2, most, start .pre .1 .0))
+    ((at, edge-row _ _ _ _ _ at _ _ most (start .pre .1 .0) _ edge (omega (arith, c .before .before .if1 .left))), (start .pre .1 .2, most, omega (arith, start .pre .1 .0)))
 
 add-second : tie.Need-add-second
 add-second c =

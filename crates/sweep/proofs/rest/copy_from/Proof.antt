@@ -19,7 +19,7 @@ place-at-requires : tie.Need-place-at-requires
 place-at-requires c κs =
     let start = c .before .before .before .before in
     let at = start .pre .0 .0 in
-    ((at, omega (arith, back-row _ _ _ _ _ at _ (start .pre .1 .2), at .row)), (omega (arith, start .pre .1 .2, here _ _ _ _ _ at .step-below, at .sized .height-most), start .pre .1 .0, start .pre .1 .1))
+    ((at, omega (arith, back-row _ _ _ _ _ at _ (start .pre .1 .2), at .row)), (omega (arith, start .pre .1 .2, here _ _ _ _ _ at .step-below, at .sized .height-most), start .pre .1 .0, omega (arith, start .pre .1 .1)))
 
 add-from : tie.Need-add-from
 add-from c =

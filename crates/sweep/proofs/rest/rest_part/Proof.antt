@@ -12,20 +12,21 @@ use Rattle.sweep.proofs.rest.rest_part.Tie as tie
 
 entry-of-requires : tie.Need-entry-of-requires
 entry-of-requires c κs =
-    let at = c .before .before .before .pre .0 .0 in
+    let at = c .before .before .before .before .pre .0 .0 in
     omega (arith, here _ _ _ _ _ at .step-below, at .tabled .profile-long)
 
 rest-side-requires : tie.Need-rest-side-requires
 rest-side-requires c κs =
-    let start = c .before .before .before .before .before .before .before in
+    let start = c .before .before .before .before .before .before .before .before in
     let far = start .pre .1 in
     let mid = c .before .nearer .ensures in
     let past = c .before .before .later .ensures in
-    (start .pre .0, (far, omega (arith, mid, past, far .most), omega (arith, mid)))
+    let drifted = c .before .before .before .entry-of .ensures ∙ here _ _ _ _ _ (start .pre .0 .0) .drift-read in
+    (start .pre .0, (far, omega (arith, mid, past, far .most), omega (arith, mid), omega (arith, mid, past, drifted)))
 
 rest-top-requires : tie.Need-rest-top-requires
 rest-top-requires c κs =
-    let start = c .before .before .before .before .before .before .before .before .before .before .before in
+    let start = c .before .before .before .before .before .before .before .before .before .before .before .before in
     let at = start .pre .0 .0 in
     let far = start .pre .1 in
     let mid = c .before .before .before .before .before .nearer .ensures in
@@ -41,7 +42,7 @@ rest-top-requires c κs =
 
 add-result : tie.Need-add-result
 add-result c =
-    let start = c .before .before .before .before .before .before .before .before .before .before .before .before .before .before in
+    let start = c .before .before .before .before .before .before .before .before .before .before .before .before .before .before .before in
     let a = start .args in
     let mid = c .before .before .before .before .before .before .before .before .nearer .result in
     let first = total-most (costAt Result (a .g) (a .row)) (cost-most Result (a .g) (a .row)) (a .hi) (mid - a .hi) in
@@ -53,7 +54,7 @@ same-length c = c .before .before .rest-top .ensures .kept .same-length ∙ c .b
 
 returns : tie.Need-returns
 returns c =
-    let start = c .before .before .before .before .before .before .before .before .before .before .before .before .before .before in
+    let start = c .before .before .before .before .before .before .before .before .before .before .before .before .before .before .before in
     let mid = c .before .before .before .before .before .before .before .before .nearer .ensures in
     let later = c .before .before .before .before .before .before .before .before .before .later .ensures in
     part-join Result _ _ _ _ _ _ _ _ _ _ (start .pre .0 .0 .row) (omega arith) (omega (arith, mid, later, start .pre .1 .most)) (omega (arith, mid)) (c .before .before .before .before .before .before .rest-side .ensures) (c .before .before .rest-top .ensures)

@@ -28,7 +28,7 @@ across-part-requires c κs =
 rest-part-requires : tie.Need-rest-part-requires
 rest-part-requires c κs =
     let start = c .before .before .before .before .before .before .before .before .before .before .before .before .before .before .before in
-    ((start .pre .0, omega (arith, start .pre .1, c .before .before .before .before .before .before .before .early-part .ensures .kept .same-length, c .before .before .before .across-part .ensures .kept .same-length)), c .before .before .before .before .before .before .before .before .before .far-edge .ensures)
+    ((start .pre .0, omega (arith, start .pre .1, c .before .before .before .before .before .before .before .early-part .ensures .kept .same-length, c .before .before .before .across-part .ensures .kept .same-length), start .pre .2), c .before .before .before .before .before .before .before .before .before .far-edge .ensures)
 
 add-result : tie.Need-add-result
 add-result c =

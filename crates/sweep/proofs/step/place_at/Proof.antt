@@ -1,4 +1,4 @@
--- `sweep::rest::place_at` meets its contract: the step's row and column. Assumes nothing.
+-- `sweep::step::place_at` meets its contract: the step's row and column. Assumes nothing.
 use mathlib.Core.Path.{ap₂, _∙_}
 use Prim.Native.Nat.{ℕ, _+_, _-_, _*_, _≤_}
 use native.Mathlib.Omega.{arith}
@@ -6,8 +6,8 @@ use Rattle.sweep.specs.Runs.{placeAt}
 use Rattle.sweep.proofs.Bounds.{product}
 use Rattle.sweep.proofs.Planning.{here}
 use Rattle.sweep.proofs.Resting.{to-below, drift-near}
-use Rattle.sweep.proofs.rest.place_at.Statement.{statement}
-use Rattle.sweep.proofs.rest.place_at.Tie as tie
+use Rattle.sweep.proofs.step.place_at.Statement.{statement}
+use Rattle.sweep.proofs.step.place_at.Tie as tie
 
 mul-target : tie.Need-mul-target
 mul-target c =
@@ -57,7 +57,8 @@ sub-result c =
     let start = c .before .before .before .before .before .before .before in
     let at = start .pre .0 .0 in
     let own = c .entry-of2 .ensures ∙ here _ _ _ _ _ at .drift-read in
-    omega (arith, own, start .pre .1 .2)
+    let reached = c .before .entry-of .ensures ∙ at .tabled .profile-is (start .args .to) (to-below _ _ _ _ _ at _ (start .pre .0 .1)) in
+    omega (arith, own, reached, start .pre .1 .2)
 
 add-result-2 : tie.Need-add-result-2
 add-result-2 c =
