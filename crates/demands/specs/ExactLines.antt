@@ -12,7 +12,7 @@ use Rattle.geometry.specs.Line.{landing, stepOf, majorAt}
 use Rattle.geometry.specs.Drift.{Sound, falls, mirrored}
 use Rattle.geometry.specs.Laws.{lands, own-step, major-at-step, step-of-major, major-of-major, landing-onward, mirrored-twice}
 use Rattle.geometry.specs.declared.Line.{Line}
-use Rattle.sweep.specs.Span.{best}
+use Rattle.runs.specs.Span.{best}
 use Rattle.filter.specs.Filters.{View, joined, extreme, valueAt, onLine, inWindow, passAt, pass}
 use Rattle.demands.specs.ExactNumbers.{twice}
 

@@ -9,7 +9,7 @@ use native.Mathlib.Decide.{decLt}
 use native.Mathlib.Omega.{arith}
 use borrow.Author.Tests.{le-leb, lt-leb, eq-eqb, ne-eqb}
 use lib.Dec.{leb, eqb}
-use Rattle.sweep.specs.Span.{chosen, best}
+use Rattle.runs.specs.Span.{chosen, best}
 
 -- of 0 and 1 the one that is lowest, or highest
 unfoldable pub winner : Bool → ℕ

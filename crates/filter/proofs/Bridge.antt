@@ -14,10 +14,10 @@ use Rattle.geometry.specs.Line.{landing, stepOf, majorAt}
 use Rattle.geometry.specs.Number.{within, inPage}
 use Rattle.geometry.specs.Drift.{falls, drift, mirrored}
 use Rattle.geometry.specs.Laws.{inside, lands}
-use Rattle.sweep.specs.Span.{best, span}
-use Rattle.sweep.specs.Grid.{Page, Sized, startRow, lineName, entry, leave, steps, columnAt, along, number, lineSteps, windowedAt}
-use Rattle.sweep.specs.GridLaws.{on-page, page-on, start-small, number-is, number-below}
-use Rattle.sweep.specs.declared.Grid.{Grid}
+use Rattle.runs.specs.Span.{best, span}
+use Rattle.runs.specs.Grid.{Page, Sized, startRow, lineName, entry, leave, steps, columnAt, along, number, lineSteps, windowedAt}
+use Rattle.runs.specs.GridLaws.{on-page, page-on, start-small, number-is, number-below}
+use Rattle.runs.specs.declared.Grid.{Grid}
 use Rattle.filter.specs.Filters.{View, valueAt, onLine, inWindow, extreme, pass}
 use Rattle.filter.specs.Engine.{neutral, orNeutral, Absent, Bytes, Shows}
 use Rattle.filter.proofs.Neutral.{orNeutral-small, extreme-best, extreme-there, there-is}

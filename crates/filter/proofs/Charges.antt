@@ -6,9 +6,10 @@ use Prim.Native.Nat.{ℕ, zero, suc, _+_, _-_, _≤_, _<_}
 use native.Mathlib.Nat.{add-zero, suc-add, add-suc, zero-add}
 use native.Mathlib.Omega.{arith}
 use Rattle.geometry.specs.Drift.{falls, mirrored}
-use Rattle.sweep.specs.Grid.{Sized, rightwardAt, leftwardAt, resultingAt}
-use Rattle.sweep.specs.Sweeps.{total, costAt, rowCost, sweepCost}
-use Rattle.sweep.specs.declared.Grid.{Grid}
+use Rattle.runs.specs.Grid.{Sized, rightwardAt, leftwardAt, resultingAt}
+use Rattle.runs.specs.Scratch.{total}
+use Rattle.sweep.specs.Sweeps.{costAt, rowCost, sweepCost}
+use Rattle.runs.specs.declared.Grid.{Grid}
 use Rattle.sweep.specs.declared.Sweep.the-variants.{Backward, Forward, Result}
 use Rattle.filter.specs.Work.{charged, chargedAt, passWork}
 use Rattle.filter.proofs.Steps.{number-behind, steps-counted}

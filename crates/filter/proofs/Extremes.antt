@@ -8,8 +8,8 @@ use Prim.Native.Nat.{ℕ, zero, suc, _+_, _-_, _≤_, _<_, min}
 use native.Mathlib.Nat.{add-zero, suc-add, add-suc, zero-add}
 use native.Mathlib.Decide.{decLt}
 use native.Mathlib.Omega.{arith}
-use Rattle.sweep.specs.Span.{chosen, best, span, span-first, span-last}
-use Rattle.sweep.specs.Block.{windowed}
+use Rattle.runs.specs.Span.{chosen, best, span, span-first, span-last}
+use Rattle.runs.specs.Block.{windowed}
 use Rattle.filter.specs.Engine.{neutral}
 use Rattle.filter.proofs.Neutral.{neutral-first, neutral-last, chosen-small}
 

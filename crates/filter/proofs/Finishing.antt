@@ -15,7 +15,7 @@ use borrow.Author.Tests.{lt-ltb, le-ltb}
 use Rattle.geometry.specs.Drift.{drift, reach}
 use Rattle.geometry.specs.Tables.{ProfileTable, ReachTable}
 use Rattle.geometry.specs.declared.Line.{Line}
-use Rattle.sweep.specs.Grid.{Tabled}
+use Rattle.runs.specs.Grid.{Tabled}
 use Rattle.ticket.specs.declared.HiddenBox.{HiddenBox}
 use Rattle.ticket.specs.declared.Ticket.{Ticket}
 use Rattle.tray.specs.Placement.{pixelIn, scratchNeeded}

@@ -17,8 +17,8 @@ use Rattle.geometry.specs.Line.{period}
 use Rattle.geometry.specs.Drift as Drift
 use Rattle.geometry.specs.Laws as Lines
 use Rattle.geometry.specs.declared.Line.{Line}
-use Rattle.sweep.specs.Grid.{Sized}
-use Rattle.sweep.specs.declared.Grid.{Grid}
+use Rattle.runs.specs.Grid.{Sized}
+use Rattle.runs.specs.declared.Grid.{Grid}
 use Rattle.ticket.specs.Judging.{isPeriodic}
 use Rattle.ticket.specs.Laws.{Allowed}
 use Rattle.ticket.specs.declared.Ticket.{Ticket}

@@ -9,9 +9,9 @@ use Prim.Native.Nat.{ℕ, zero, suc, _+_, _≤_, _<_}
 use native.Mathlib.Decide.{decLt}
 use native.Mathlib.Omega.{arith}
 use Rattle.geometry.specs.Drift.{falls, mirrored}
-use Rattle.sweep.specs.Span.{chosen, best}
-use Rattle.sweep.specs.Grid.{Page}
-use Rattle.sweep.specs.declared.Grid.{Grid}
+use Rattle.runs.specs.Span.{chosen, best}
+use Rattle.runs.specs.Grid.{Page}
+use Rattle.runs.specs.declared.Grid.{Grid}
 use Rattle.filter.specs.Filters.{View, joined, extreme}
 use Rattle.filter.specs.Engine.{neutral, orNeutral}
 

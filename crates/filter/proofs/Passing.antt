@@ -10,9 +10,10 @@ use lib.Dec.{eqb}
 use borrow.Author.Tests.{eq-eqb, ne-eqb}
 use lib.ListN.{length, getD}
 use Rattle.geometry.specs.Drift.{falls, mirrored}
-use Rattle.sweep.specs.Grid.{Page, Sized, Tabled, windowedAt}
-use Rattle.sweep.specs.Sweeps.{size, RowsHold, Passed}
-use Rattle.sweep.specs.declared.Grid.{Grid}
+use Rattle.runs.specs.Grid.{Page, Sized, Tabled, windowedAt}
+use Rattle.runs.specs.Scratch.{size}
+use Rattle.sweep.specs.Sweeps.{RowsHold, Passed}
+use Rattle.runs.specs.declared.Grid.{Grid}
 use Rattle.ticket.specs.Laws.{Allowed}
 use Rattle.ticket.specs.declared.Ticket.{Ticket}
 use Rattle.tray.specs.Turned.{acrossOf, downOf, compactColumn, compactAt}

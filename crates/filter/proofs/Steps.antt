@@ -11,10 +11,10 @@ use Rattle.geometry.specs.Number.{inPage, behind, ahead}
 use Rattle.geometry.specs.Drift.{Inside, falls, mirrored}
 use Rattle.geometry.specs.Laws.{mirrored-below, inside, inside-in-page, consecutive, behind-low}
 use Rattle.geometry.specs.Normal.{and-true}
-use Rattle.sweep.specs.Grid.{Sized, startRow, lineName, entry, leave, steps, rowAt, number, lineSteps}
-use Rattle.sweep.specs.GridLaws as grid
-use Rattle.sweep.specs.GridLaws.{OnPage, on-page, on-line}
-use Rattle.sweep.specs.declared.Grid.{Grid}
+use Rattle.runs.specs.Grid.{Sized, startRow, lineName, entry, leave, steps, rowAt, number, lineSteps}
+use Rattle.runs.specs.GridLaws as grid
+use Rattle.runs.specs.GridLaws.{OnPage, on-page, on-line}
+use Rattle.runs.specs.declared.Grid.{Grid}
 
 -- in plain numbers: a step s is between the edges of a side W, for a pixel at x and the drifts t at its step and s at the other
 left-on : (W x t s : ℕ) → x < W → t ≤ x + s → W + t - x ≤ W + s

@@ -12,9 +12,9 @@ use lib.Dec.{eqb}
 use Rattle.geometry.specs.Vector.{shallow, steep, majorOf, minorOf}
 use Rattle.geometry.specs.Line.{floorDiv, D, shift, period, profile, place, landing, stepOf, majorAt}
 use Rattle.geometry.specs.Number.{within, inPage, count, behind, ahead}
-use Rattle.sweep.specs.Span.{chosen}
-use Rattle.sweep.specs.Block.{rightward, leftward, resulting}
-use Rattle.sweep.specs.Sweeps.{total}
+use Rattle.runs.specs.Span.{chosen}
+use Rattle.runs.specs.Block.{rightward, leftward, resulting}
+use Rattle.runs.specs.Scratch.{total}
 use Rattle.ticket.specs.Fields.{byteAt, numberAt, signed16, signedAt, operationIn, lineIn, dxIn, dyIn, lengthIn, originIn, phaseIn, boxHead, boxIn, boxesIn}
 use Rattle.ticket.specs.Judging.{_then_, judgeHead, judgeSize, judgeField, operationKnown, lineKnown, isPeriodic, divided, coprime, vectorAllowed, lengthAllowed, originAllowed, phaseAllowed, judgeOperation, judgeLine, judgeVector, judgeLength, judgeOrigin, judgePhase, judgeBox, judged}
 use Rattle.ticket.specs.Judging as Judging

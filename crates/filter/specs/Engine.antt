@@ -10,8 +10,8 @@ use lib.ListN.{length, getD}
 use Rattle.geometry.specs.Line.{period}
 use Rattle.geometry.specs.Drift.{falls, mirrored, drift, reach}
 use Rattle.geometry.specs.declared.Line.{Line}
-use Rattle.sweep.specs.Grid.{Page, Tabled}
-use Rattle.sweep.specs.declared.Grid.{Grid}
+use Rattle.runs.specs.Grid.{Page, Tabled}
+use Rattle.runs.specs.declared.Grid.{Grid}
 use Rattle.ticket.specs.Laws.{Allowed}
 use Rattle.ticket.specs.declared.HiddenBox.{HiddenBox}
 use Rattle.ticket.specs.declared.Ticket.{Ticket}

@@ -9,7 +9,7 @@ use mathlib.Core.List.{List}
 use lib.Dec.{leb, eqb}
 use Rattle.geometry.specs.Line.{landing, stepOf, majorAt}
 use Rattle.geometry.specs.declared.Line.{Line}
-use Rattle.sweep.specs.Span.{chosen}
+use Rattle.runs.specs.Span.{chosen}
 use Rattle.ticket.specs.declared.Ticket.{Ticket}
 use Rattle.filter.specs.Seen.{boxesOf, lineOf, seen, turned, runsSteep}
 use Rattle.tray.specs.declared.Placement.{Placement}

@@ -7,8 +7,8 @@ use mathlib.Core.Bool.{cond}
 use lib.Dec.{eqb}
 use Rattle.geometry.specs.Number.{behind, ahead}
 use Rattle.geometry.specs.declared.Line.{Line}
-use Rattle.sweep.specs.Block.{rightward, leftward, resulting}
-use Rattle.sweep.specs.Sweeps.{total}
+use Rattle.runs.specs.Block.{rightward, leftward, resulting}
+use Rattle.runs.specs.Scratch.{total}
 use Rattle.ticket.specs.declared.Ticket.{Ticket}
 use Rattle.filter.specs.Seen.{lineOf, runsSteep}
 use Rattle.filter.specs.Filters.{dilationBack}

@@ -10,7 +10,7 @@ ghost use Rattle.filter.specs.Work.{passWork, workOf};
 ghost use Rattle.filter.specs.Engine.{neutral, steepOf, fallsOf, backOf, gridOf, Runs, PassDone};
 use super::hide::hide;
 use geometry::Line;
-use sweep::Grid;
+use runs::Grid;
 use ticket::Ticket;
 
 // The line that a ticket orders.

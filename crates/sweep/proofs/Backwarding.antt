@@ -6,19 +6,20 @@ use Prim.Native.Nat.{ℕ, suc, _+_, _-_, _*_, _%_, _<_}
 use native.Mathlib.Nat.{add-assoc}
 use native.Mathlib.Omega.{arith}
 use lib.ListN.{getD}
-use Rattle.sweep.specs.Span.{chosen}
-use Rattle.sweep.specs.Grid.{startRow, lineName, number, lineSteps, spot}
-use Rattle.sweep.specs.GridLaws.{row-fits}
-use Rattle.sweep.specs.Sweeps.{Ready, PartDone, target, newAt, costAt, size}
-use Rattle.sweep.specs.Runs.{Row, FarEdge, placeOn, inBlock, Planned, Walked, BackwardPlan}
-use Rattle.sweep.specs.declared.Grid.{Grid}
-use Rattle.sweep.specs.declared.Plan.{Plan}
+use Rattle.runs.specs.Span.{chosen}
+use Rattle.runs.specs.Grid.{startRow, lineName, number, lineSteps, spot}
+use Rattle.runs.specs.GridLaws.{row-fits}
+use Rattle.runs.specs.Scratch.{size}
+use Rattle.sweep.specs.Sweeps.{Ready, PartDone, target, newAt, costAt}
+use Rattle.runs.specs.Runs.{Row, FarEdge, placeOn, inBlock, Planned, Walked, BackwardPlan}
+use Rattle.runs.specs.declared.Grid.{Grid}
+use Rattle.runs.specs.declared.Plan.{Plan}
 use Rattle.sweep.specs.declared.Sweep.the-variants.{Backward}
 use Rattle.sweep.proofs.Making.{small, back-last, back-last-cost, no-next, back-next, back-next-cost}
 use Rattle.sweep.proofs.Reading.{read-B, row-later}
-use Rattle.sweep.proofs.Planning.{pixel}
+use Rattle.runs.proofs.Planning.{pixel}
 use Rattle.sweep.proofs.Places.{from-entry, spot-ahead, row-end, far-fits, far-on}
-use Rattle.sweep.proofs.Walking.{entry-own}
+use Rattle.runs.proofs.Walking.{entry-own}
 use Rattle.sweep.proofs.Parts.{Free, Charged, own-part, walked-part}
 
 module _ (g : Grid) (profile reaches : List ℕ) (R t : ℕ) (at : Row g profile reaches R t) (old : List ℕ) (hi : ℕ) (far : FarEdge g R t 1 hi) where

@@ -11,21 +11,23 @@ use lib.Dec.{ltb}
 use lib.ListN.{getD}
 use borrow.Author.Tests.{le-leb, lt-leb, lt-ltb, le-ltb}
 use Rattle.geometry.specs.Drift.{drift}
-use Rattle.sweep.specs.Span.{chosen}
-use Rattle.sweep.specs.Grid.{Page, Pixel, startRow, lineName, rowAt, columnAt, number, toEndAt, fromStartAt}
-use Rattle.sweep.specs.GridLaws.{OnPage, row-fits}
-use Rattle.sweep.specs.Sweeps.{Ready, PartDone, target, newAt, costAt, size, windowRows, total}
-use Rattle.sweep.specs.Runs.{Row, EdgeAt, FarEdge, Marked, Copied, ChosenUnless, comparedOf, entryAt, placeAt, AtBottom, Begun, inOneBlock, WithinAt}
-use Rattle.sweep.specs.declared.Grid.{Grid}
+use Rattle.runs.specs.Span.{chosen}
+use Rattle.runs.specs.Grid.{Page, Pixel, startRow, lineName, rowAt, columnAt, number, toEndAt, fromStartAt}
+use Rattle.runs.specs.GridLaws.{OnPage, row-fits}
+use Rattle.runs.specs.Scratch.{size, total}
+use Rattle.sweep.specs.Sweeps.{Ready, PartDone, target, newAt, costAt, windowRows}
+use Rattle.sweep.specs.Bottom.{AtBottom, Begun, WithinAt}
+use Rattle.runs.specs.Runs.{Row, EdgeAt, FarEdge, Marked, Copied, ChosenUnless, comparedOf, entryAt, placeAt, inOneBlock}
+use Rattle.runs.specs.declared.Grid.{Grid}
 use Rattle.sweep.specs.declared.Within.{Within}
 use Rattle.sweep.specs.declared.Sweep.the-variants.{Result}
 use Rattle.sweep.proofs.Making.{small, start, made-within, made-last, made-short-line}
 use Rattle.sweep.proofs.Reading.{read-B, read-within}
-use Rattle.sweep.proofs.Planning.{pixel, here, name, row-on, on}
+use Rattle.runs.proofs.Planning.{pixel, here, name, row-on, on, target-is}
 use Rattle.sweep.proofs.Places.{from-entry, far-rows}
 use Rattle.sweep.proofs.Parts.{Free, Charged, Told, copied-part, unless-part}
-use Rattle.sweep.proofs.Walking.{mod-sum, mark-entered}
-use Rattle.sweep.proofs.Resting.{target-is, place-is, place-shift, place-fits}
+use Rattle.runs.proofs.Walking.{mod-sum, mark-entered}
+use Rattle.sweep.proofs.Resting.{place-is, place-shift, place-fits}
 
 -- ---- what a mark says
 

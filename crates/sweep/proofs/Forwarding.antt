@@ -7,19 +7,19 @@ use native.Mathlib.Nat.{mul-le-mul-right, suc-mul, zero-add, mod-eq-of-lt, one-m
 use native.Mathlib.Omega.{arith}
 use lib.ListN.{getD}
 use Rattle.geometry.specs.Laws.{period-forward}
-use Rattle.sweep.specs.Span.{chosen, chosen-comm}
-use Rattle.sweep.specs.Grid.{startRow, lineName, number, spot}
+use Rattle.runs.specs.Span.{chosen, chosen-comm}
+use Rattle.runs.specs.Grid.{startRow, lineName, number, spot}
 use Rattle.sweep.specs.Sweeps.{Ready, PartDone, RowSwept, target, newAt, costAt}
-use Rattle.sweep.specs.Runs.{Row, inBlock, Planned, Walked, ForwardPlan}
-use Rattle.sweep.specs.declared.Grid.{Grid}
-use Rattle.sweep.specs.declared.Plan.{Plan}
+use Rattle.runs.specs.Runs.{Row, inBlock, Planned, Walked, ForwardPlan}
+use Rattle.runs.specs.declared.Grid.{Grid}
+use Rattle.runs.specs.declared.Plan.{Plan}
 use Rattle.sweep.specs.declared.Sweep.the-variants.{Forward}
 use Rattle.sweep.proofs.Making.{ahead-first, ahead-first-cost, before, ahead-next, ahead-next-cost}
 use Rattle.sweep.proofs.Reading.{read-A, row-earlier, row-before}
 use Rattle.sweep.proofs.Rowing.{part-join}
-use Rattle.sweep.proofs.Planning.{pixel, rows-back}
+use Rattle.runs.proofs.Planning.{pixel, rows-back}
 use Rattle.sweep.proofs.Places.{from-entry, spot-behind, row-end}
-use Rattle.sweep.proofs.Walking.{entry-own}
+use Rattle.runs.proofs.Walking.{entry-own}
 use Rattle.sweep.proofs.Parts.{Free, Charged, own-part, walked-part}
 
 module _ (g : Grid) (profile reaches : List ℕ) (R t : ℕ) (at : Row g profile reaches R t) (old : List ℕ) where

@@ -6,10 +6,10 @@ use Prim.Native.Nat.{ℕ, _<_}
 use native.Mathlib.Omega.{arith}
 use lib.Dec.{eqb}
 use borrow.Author.Tests.{eqb-true, eqb-false}
-use Rattle.sweep.specs.Grid.{Pixel, startRow, lineName, spot}
-use Rattle.sweep.specs.GridLaws.{OnPage, spot-below, spot-there}
-use Rattle.sweep.specs.Sweeps.{size}
-use Rattle.sweep.specs.declared.Grid.{Grid}
+use Rattle.runs.specs.Grid.{Pixel, startRow, lineName, spot}
+use Rattle.runs.specs.GridLaws.{OnPage, spot-below, spot-there}
+use Rattle.runs.specs.Scratch.{size}
+use Rattle.runs.specs.declared.Grid.{Grid}
 use Rattle.sweep.proofs.Making.{small}
 
 module _ (g : Grid) (profile reaches : List ℕ) (R t x : ℕ) (at : Pixel g profile reaches R t x) where

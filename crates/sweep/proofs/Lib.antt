@@ -1,17 +1,12 @@
 pub mod Backwarding
 pub mod Bottoming
-pub mod Bounds
 pub mod Forwarding
 pub mod Found
 pub mod Making
 pub mod Paging
 pub mod Parts
 pub mod Places
-pub mod Planning
 pub mod Reading
 pub mod Resting
 pub mod Resulting
 pub mod Rowing
-pub mod Running
-pub mod Spots
-pub mod Walking

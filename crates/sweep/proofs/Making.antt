@@ -1,6 +1,5 @@
 -- What the sweeps make at a pixel is what its line's laws say (BlockLaws), with its cost. Assumes nothing.
 use mathlib.Core.Path.{_≡_, sym, ap, ap₂, _∙_, subst}
-use mathlib.Core.Bool.{Bool, false, _||_, cond, or-true}
 use mathlib.Core.List.{List}
 use mathlib.Core.Logic.{_⊎_, ⊎-elim, by-cases}
 use Prim.Native.Nat.{ℕ, suc, _+_, _-_, _%_, _≤_, _<_}
@@ -8,15 +7,13 @@ use native.Mathlib.Nat.{mod-le, mod-lt}
 use native.Mathlib.Decide.{decLt}
 use native.Mathlib.Omega.{arith}
 use lib.ListN.{length}
-use lib.Dec.{eqb}
-use borrow.Author.Tests.{eq-eqb, ne-eqb}
 use Rattle.geometry.specs.Line.{period, stepOf}
-use Rattle.sweep.specs.Span.{chosen}
-use Rattle.sweep.specs.Block.{fromStart, toEnd, windowed, rightward, leftward, resulting}
-use Rattle.sweep.specs.BlockLaws.{fromStart-first, fromStart-next, toEnd-last, toEnd-next, result-whole, result-block, result-across, result-cut, result-short, result-within, result-last, result-early, result-all, result-short-line}
-use Rattle.sweep.specs.Grid.{Page, Pixel, startRow, lineName, entry, leave, steps, rowAt, columnAt, along, number, lineSteps, toEndAt, fromStartAt, windowedAt, rightwardAt, leftwardAt, resultingAt}
-use Rattle.sweep.specs.GridLaws.{OnPage, on-line, on-page, own-step, start-small, row-again, column-again, number-is, number-below, page-on, toEnd-on, fromStart-on}
-use Rattle.sweep.specs.declared.Grid.{Grid}
+use Rattle.runs.specs.Span.{chosen}
+use Rattle.runs.specs.Block.{fromStart, toEnd, windowed, resulting}
+use Rattle.runs.specs.BlockLaws.{fromStart-first, fromStart-next, toEnd-last, toEnd-next, rightward-first, rightward-next, leftward-last, leftward-next, result-whole, result-block, result-across, result-cut, result-short, result-within, result-last, result-early, result-all, result-short-line}
+use Rattle.runs.specs.Grid.{Page, Pixel, startRow, lineName, entry, leave, steps, rowAt, columnAt, along, number, lineSteps, toEndAt, fromStartAt, windowedAt, rightwardAt, leftwardAt, resultingAt}
+use Rattle.runs.specs.GridLaws.{OnPage, on-line, on-page, own-step, start-small, row-again, column-again, number-is, number-below, page-on, toEnd-on, fromStart-on}
+use Rattle.runs.specs.declared.Grid.{Grid}
 
 module _ (g : Grid) (profile reaches : List ℕ) (R t x : ℕ) (at : Pixel g profile reaches R t x) where
   abbrev pub u : ℕ
@@ -77,12 +74,8 @@ module _ (g : Grid) (profile reaches : List ℕ) (R t x : ℕ) (at : Pixel g pro
       sym (here f) ∙ sym (toEnd-last (g .low) (g .length) (lineSteps g R x) (along g f u z) (number g R x) long in-line ends)
 
   pub back-last-cost : (suc (number g R x) % g .length ≡ 0) ⊎ (suc (number g R x) ≡ lineSteps g R x) → 0 ≡ leftwardAt g R x
-  unfolding leftwardAt leftward
-  back-last-cost ends =
-      ⊎-elim
-      (λ e. sym (ap (λ (q : Bool). cond (q || eqb (suc (number g R x)) (lineSteps g R x)) 0 1) (eq-eqb _ _ e)))
-      (λ e. sym (ap (λ (q : Bool). cond (eqb (suc (number g R x) % g .length) 0 || q) 0 1) (eq-eqb _ _ e) ∙ ap (λ (q : Bool). cond q 0 1) (or-true (eqb (suc (number g R x) % g .length) 0))))
-      ends
+  unfolding leftwardAt
+  back-last-cost ends = leftward-last (g .length) (lineSteps g R x) (number g R x) ends
 
   pub no-next : (OnPage g u z (t + 1) → ⊥) → suc (number g R x) ≡ lineSteps g R x
   no-next off =
@@ -99,12 +92,10 @@ module _ (g : Grid) (profile reaches : List ℕ) (R t x : ℕ) (at : Pixel g pro
         ∙ sym (toEnd-next (g .low) (g .length) (steps g u z) (along g f u z) (number g R x) long going (omega arith))
 
     pub back-next-cost : 1 ≡ leftwardAt g R x
-    unfolding leftwardAt leftward lineSteps
+    unfolding leftwardAt lineSteps
     back-next-cost =
         let inside : t + 1 - entry g z < steps g u z = counted (t + 1) next in
-        let blocks : eqb (suc (number g R x) % g .length) 0 ≡ false = ne-eqb (suc (number g R x) % g .length) 0 (λ e. omega arith) in
-        let ends : eqb (suc (number g R x)) (steps g u z) ≡ false = ne-eqb (suc (number g R x)) (steps g u z) (λ e. omega (arith, numbered)) in
-        sym (ap₂ (λ (p q : Bool). cond (p || q) 0 1) blocks ends)
+        leftward-next (g .length) (steps g u z) (number g R x) going (omega (arith, numbered))
 
   -- ---- forward
 
@@ -113,8 +104,8 @@ module _ (g : Grid) (profile reaches : List ℕ) (R t x : ℕ) (at : Pixel g pro
   ahead-first f e = sym (here f) ∙ sym (fromStart-first (g .low) (g .length) (along g f u z) (number g R x) e)
 
   pub ahead-first-cost : number g R x % g .length ≡ 0 → 0 ≡ rightwardAt g R x
-  unfolding rightwardAt rightward
-  ahead-first-cost e = sym (ap (λ (q : Bool). cond q 0 1) (eq-eqb _ _ e))
+  unfolding rightwardAt
+  ahead-first-cost e = rightward-first (g .length) (number g R x) e
 
   module _ (going : 0 < number g R x % g .length) where
     pub later : 0 < number g R x
@@ -139,8 +130,8 @@ module _ (g : Grid) (profile reaches : List ℕ) (R t x : ℕ) (at : Pixel g pro
         ∙ ap (fromStart (g .low) (g .length) (along g f u z)) (sym j)
 
     pub ahead-next-cost : 1 ≡ rightwardAt g R x
-    unfolding rightwardAt rightward
-    ahead-next-cost = sym (ap (λ (q : Bool). cond q 0 1) (ne-eqb (number g R x % g .length) 0 (λ e. omega arith)))
+    unfolding rightwardAt
+    ahead-next-cost = rightward-next (g .length) (number g R x) going
 
   -- ---- results
 

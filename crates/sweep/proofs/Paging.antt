@@ -9,14 +9,16 @@ use native.Mathlib.Numerals.{add-one}
 use native.Mathlib.Decide.{decLt}
 use native.Mathlib.Omega.{arith}
 use lib.ListN.{length, getD}
-use Rattle.sweep.specs.Grid.{Page, Sized, toEndAt, fromStartAt, windowedAt}
-use Rattle.sweep.specs.Sweeps.{size, target, newAt, costAt, RowsHold, windowRows, Ready, PartReady, RowSwept, Kept, total, rowCost, Raised, Lowered, SweptIf, lag, sweepCost}
-use Rattle.sweep.specs.Runs.{Copied}
-use Rattle.sweep.specs.declared.Grid.{Grid}
+use Rattle.runs.specs.Grid.{Page, Sized, toEndAt, fromStartAt, windowedAt}
+use Rattle.runs.specs.Scratch.{size, Kept, total}
+use Rattle.sweep.specs.Sweeps.{target, newAt, costAt, RowsHold, windowRows, Ready, PartReady, RowSwept, rowCost, Raised, Lowered, SweptIf, lag, sweepCost}
+use Rattle.runs.specs.Runs.{Copied}
+use Rattle.runs.specs.declared.Grid.{Grid}
 use Rattle.sweep.specs.declared.Sweep.{Sweep}
 use Rattle.sweep.specs.declared.Sweep.the-variants.{Backward, Forward, Result}
-use Rattle.sweep.proofs.Bounds.{place-below, product}
-use Rattle.sweep.proofs.Rowing.{total-more, total-first, total-join, total-most, cost-most}
+use Rattle.runs.proofs.Bounds.{place-below, product}
+use Rattle.runs.proofs.Totals.{total-more, total-first, total-join, total-most}
+use Rattle.sweep.proofs.Rowing.{cost-most}
 
 -- ---- the backward sweep
 

@@ -10,14 +10,15 @@ use native.Mathlib.Omega.{arith}
 use lib.Dec.{eqb}
 use lib.ListN.{getD}
 use borrow.Author.Tests.{eq-eqb, ne-eqb}
-use Rattle.sweep.specs.Span.{chosen}
-use Rattle.sweep.specs.Grid.{Page}
-use Rattle.sweep.specs.Sweeps.{Ready, PartDone, target, newAt, costAt, total}
-use Rattle.sweep.specs.Runs.{Copied, Chosen, ChosenUnless, keptOr, comparedOf, inBlock, Walked}
-use Rattle.sweep.specs.declared.Grid.{Grid}
-use Rattle.sweep.specs.declared.Plan.{Plan}
+use Rattle.runs.specs.Span.{chosen}
+use Rattle.runs.specs.Grid.{Page}
+use Rattle.runs.specs.Scratch.{total}
+use Rattle.sweep.specs.Sweeps.{Ready, PartDone, target, newAt, costAt}
+use Rattle.runs.specs.Runs.{Copied, Chosen, ChosenUnless, keptOr, comparedOf, inBlock, Walked}
+use Rattle.runs.specs.declared.Grid.{Grid}
+use Rattle.runs.specs.declared.Plan.{Plan}
 use Rattle.sweep.specs.declared.Sweep.{Sweep}
-use Rattle.sweep.proofs.Rowing.{total-same, total-alike, total-shift}
+use Rattle.runs.proofs.Totals.{total-same, total-alike, total-shift}
 
 module _ (sweep : Sweep) (g : Grid) (R : ℕ) (old : List ℕ) where
   -- a value that the sweep makes at column y with no comparison, and one that it makes with one

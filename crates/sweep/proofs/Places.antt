@@ -6,13 +6,13 @@ use native.Mathlib.Nat.{mul-le-mul-right, suc-mul, add-mul}
 use native.Mathlib.Omega.{arith}
 use Rattle.geometry.specs.Line.{period}
 use Rattle.geometry.specs.Drift.{drift}
-use Rattle.sweep.specs.Grid.{startRow, lineName, rowAt, columnAt, number, spot}
-use Rattle.sweep.specs.GridLaws.{OnPage, spot-on}
-use Rattle.sweep.specs.Sweeps.{size}
-use Rattle.sweep.specs.Runs.{Row, FarEdge, entryAt, placeOn}
-use Rattle.sweep.specs.declared.Grid.{Grid}
+use Rattle.runs.specs.Grid.{startRow, lineName, rowAt, columnAt, number, spot}
+use Rattle.runs.specs.GridLaws.{OnPage, spot-on}
+use Rattle.runs.specs.Scratch.{size}
+use Rattle.runs.specs.Runs.{Row, FarEdge, entryAt, placeOn}
+use Rattle.runs.specs.declared.Grid.{Grid}
 use Rattle.sweep.proofs.Making as making
-use Rattle.sweep.proofs.Planning.{pixel, here, name, row-on, on}
+use Rattle.runs.proofs.Planning.{pixel, here, name, row-on, on}
 
 module _ (g : Grid) (profile reaches : List ℕ) (R t : ℕ) (at : Row g profile reaches R t) where
   -- a row, and the rows up to it

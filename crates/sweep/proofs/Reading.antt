@@ -7,10 +7,11 @@ use native.Mathlib.Omega.{arith}
 use lib.ListN.{getD}
 use Rattle.geometry.specs.Line.{period}
 use Rattle.geometry.specs.Laws.{period-forward}
-use Rattle.sweep.specs.Grid.{Page, Pixel, rowAt, columnAt, number, toEndAt, spot}
-use Rattle.sweep.specs.GridLaws.{OnPage, row-fits, column-fits, row-again, column-again, spot-on}
-use Rattle.sweep.specs.Sweeps.{size, RowsHold, Across}
-use Rattle.sweep.specs.declared.Grid.{Grid}
+use Rattle.runs.specs.Grid.{Page, Pixel, rowAt, columnAt, number, toEndAt, spot}
+use Rattle.runs.specs.GridLaws.{OnPage, row-fits, column-fits, row-again, column-again, spot-on}
+use Rattle.runs.specs.Scratch.{size}
+use Rattle.sweep.specs.Sweeps.{RowsHold, Across}
+use Rattle.runs.specs.declared.Grid.{Grid}
 use Rattle.sweep.proofs.Making.{u, z, small, long, start}
 
 module _ (g : Grid) (profile reaches : List ℕ) (R t x : ℕ) (at : Pixel g profile reaches R t x) where

@@ -9,19 +9,20 @@ use lib.ListN.{getD}
 use Rattle.geometry.specs.Line.{period}
 use Rattle.geometry.specs.Drift.{drift}
 use Rattle.geometry.specs.Laws.{period-forward, drift-rises, drift-bound}
-use Rattle.sweep.specs.Span.{chosen}
-use Rattle.sweep.specs.Grid.{Pixel, startRow, lineName, entry, rowAt, columnAt, number, spot}
-use Rattle.sweep.specs.GridLaws.{OnPage, row-fits, spot-on}
-use Rattle.sweep.specs.Sweeps.{Ready, PartDone, target, newAt, costAt, size}
-use Rattle.sweep.specs.Runs.{Row, Copied, Chosen, entryAt, placeAt, StepEdge, PastLine}
-use Rattle.sweep.specs.declared.Grid.{Grid}
+use Rattle.runs.specs.Span.{chosen}
+use Rattle.runs.specs.Grid.{Pixel, startRow, lineName, entry, rowAt, columnAt, number, spot}
+use Rattle.runs.specs.GridLaws.{OnPage, row-fits, spot-on}
+use Rattle.runs.specs.Scratch.{size}
+use Rattle.sweep.specs.Sweeps.{Ready, PartDone, target, newAt, costAt}
+use Rattle.runs.specs.Runs.{Row, Copied, Chosen, entryAt, placeAt, StepEdge, PastLine}
+use Rattle.runs.specs.declared.Grid.{Grid}
 use Rattle.sweep.specs.declared.Sweep.the-variants.{Result}
-use Rattle.sweep.proofs.Bounds.{entry-zero}
+use Rattle.runs.proofs.Bounds.{entry-zero}
 use Rattle.sweep.proofs.Making.{small, start, entering, made-all, made-whole, made-cut, made-short, following}
 use Rattle.sweep.proofs.Reading.{read-B}
-use Rattle.sweep.proofs.Planning.{pixel, here, name}
+use Rattle.runs.proofs.Planning.{pixel, here, name, target-is, drift-near}
 use Rattle.sweep.proofs.Places.{from-entry}
-use Rattle.sweep.proofs.Running.{filled-none}
+use Rattle.runs.proofs.Running.{filled-none}
 use Rattle.sweep.proofs.Parts.{Free, Charged, copied-part, chosen-part}
 
 -- runs under other names of their places
@@ -35,21 +36,6 @@ pub chosen-none : (low : Bool) (to first second n : ℕ) (old : List ℕ) → n 
 chosen-none low to first second n old none = subst (λ (q : ℕ). Chosen low to first second q old old) (sym none) (filled-none to _ old)
 
 module _ (g : Grid) (profile reaches : List ℕ) (R t : ℕ) (at : Row g profile reaches R t) where
-  -- the row of a step, as the code has it
-  pub target-is : (s : ℕ) → R - t * g .period + s * g .period ≡ startRow g R + s * period (g .line)
-  target-is s =
-      let same : s * g .period ≡ s * period (g .line) = ap (λ (q : ℕ). s * q) (at .sized .period-is) in
-      omega (arith, here g profile reaches R t at .start)
-
-  -- rows of the page
-  pub to-below : (s : ℕ) → R - t * g .period + s * g .period < g .height → s < g .height
-  to-below s rows =
-      let one : s * 1 ≤ s * period (g .line) = mul-le-mul-left s (period-forward (g .line) (at .sized .sound)) in
-      omega (arith, target-is s, mul-one s)
-
-  pub drift-near : (s : ℕ) → R - t * g .period + s * g .period < g .height → drift (g .line) s < g .height
-  drift-near s rows = omega (arith, drift-bound (g .line) (at .sized .sound) s, target-is s)
-
   pub back-row : (s : ℕ) → s ≤ t → R - t * g .period + s * g .period ≤ R
   back-row s h =
       let less : s * g .period ≤ t * g .period = mul-le-mul-right (g .period) h in
@@ -70,13 +56,13 @@ module _ (g : Grid) (profile reaches : List ℕ) (R t : ℕ) (at : Row g profile
   pub place-fits : (s lo hi : ℕ) → lo < hi → hi ≤ g .width → drift (g .line) t ≤ lo + drift (g .line) s → OnPage g (startRow g R) (lineName g R (hi - 1)) s → placeAt g R t s lo + (hi - lo) ≤ size g
   unfolding placeAt
   place-fits s lo hi some most reached last =
-      omega (arith, row-room (R - t * g .period + s * g .period) (omega (arith, last .row, target-is s)), last .right, last .left, name g profile reaches R t at (hi - 1) (omega arith))
+      omega (arith, row-room (R - t * g .period + s * g .period) (omega (arith, last .row, target-is g profile reaches R t at s)), last .right, last .left, name g profile reaches R t at (hi - 1) (omega arith))
 
   -- ---- edges of a step
 
   module _ (lo s : ℕ) (most : lo ≤ g .width) (reached : drift (g .line) t ≤ lo) where
     pub edge-past : g .height ≤ R - t * g .period + s * g .period → StepEdge g R t lo s lo
-    edge-past far = record { least = omega arith; most = most; left = λ y l h. absurd (omega arith); right = λ y l h o. let r = o .row in omega (arith, target-is s) }
+    edge-past far = record { least = omega arith; most = most; left = λ y l h. absurd (omega arith); right = λ y l h o. let r = o .row in omega (arith, target-is g profile reaches R t at s) }
 
     module _ (rows : R - t * g .period + s * g .period < g .height) where
       pub edge-whole : drift (g .line) s ≤ drift (g .line) t → StepEdge g R t lo s (g .width)
@@ -84,7 +70,7 @@ module _ (g : Grid) (profile reaches : List ℕ) (R t : ℕ) (at : Row g profile
           record {
             least = most;
             most = omega arith;
-            left = λ y l h. let n = name g profile reaches R t at y h in record { row = omega (arith, target-is s); left = omega arith; right = omega arith };
+            left = λ y l h. let n = name g profile reaches R t at y h in record { row = omega (arith, target-is g profile reaches R t at s); left = omega arith; right = omega arith };
             right = λ y l h. absurd (omega arith);
           }
 
@@ -96,7 +82,7 @@ module _ (g : Grid) (profile reaches : List ℕ) (R t : ℕ) (at : Row g profile
           record {
             least = omega arith;
             most = omega arith;
-            left = λ y l h. let n = name g profile reaches R t at y (omega arith) in record { row = omega (arith, target-is s); left = omega arith; right = omega arith };
+            left = λ y l h. let n = name g profile reaches R t at y (omega arith) in record { row = omega (arith, target-is g profile reaches R t at s); left = omega arith; right = omega arith };
             right = λ y l h o. let r = o .right in omega (arith, name g profile reaches R t at y h);
           }
 
@@ -105,7 +91,7 @@ module _ (g : Grid) (profile reaches : List ℕ) (R t : ℕ) (at : Row g profile
       last = edge .left (hi - 1) (omega arith) (omega arith)
 
       pub edge-row : R - t * g .period + s * g .period < g .height
-      edge-row = omega (arith, last .row, target-is s)
+      edge-row = omega (arith, last .row, target-is g profile reaches R t at s)
 
       pub place-edge-fits : placeAt g R t s lo + (hi - lo) ≤ size g
       place-edge-fits = place-fits s lo hi some (edge .most) (omega arith) last
@@ -118,7 +104,7 @@ module _ (g : Grid) (profile reaches : List ℕ) (R t : ℕ) (at : Row g profile
     pub place-is : (s : ℕ) → OnPage g (startRow g R) (lineName g R y) s → placeAt g R t s y ≡ spot g (startRow g R) (lineName g R y) s
     unfolding placeAt rowAt columnAt
     place-is s there =
-        ap₂ (λ (r c : ℕ). r * g .width + c) (target-is s) columns
+        ap₂ (λ (r c : ℕ). r * g .width + c) (target-is g profile reaches R t at s) columns
         ∙ sym (spot-on g (at .sized) (startRow g R) (lineName g R y) s (small g profile reaches R t y (pixel g profile reaches R t at y column)) there)
       where
         columns : y + drift (g .line) s - drift (g .line) t ≡ g .width + drift (g .line) s - lineName g R y

@@ -6,17 +6,18 @@ use Prim.Native.Nat.{ℕ, suc, _+_, _-_, _*_, _%_, _≤_, _<_, min, zero-le}
 use native.Mathlib.Nat.{mul-le-mul-right, suc-mul}
 use native.Mathlib.Omega.{arith}
 use lib.ListN.{getD}
-use Rattle.sweep.specs.Span.{chosen, chosen-comm}
-use Rattle.sweep.specs.Grid.{startRow, lineName, number, spot}
-use Rattle.sweep.specs.GridLaws.{OnPage, row-fits}
-use Rattle.sweep.specs.Sweeps.{Ready, PartDone, target, newAt, costAt, size, windowRows}
-use Rattle.sweep.specs.Runs.{Row, EdgeAt, FarEdge, Copied, placeOn, entryAt, inBlock, Planned, Walked, ResultPlan}
-use Rattle.sweep.specs.declared.Grid.{Grid}
-use Rattle.sweep.specs.declared.Plan.{Plan}
+use Rattle.runs.specs.Span.{chosen, chosen-comm}
+use Rattle.runs.specs.Grid.{startRow, lineName, number, spot}
+use Rattle.runs.specs.GridLaws.{OnPage, row-fits}
+use Rattle.runs.specs.Scratch.{size}
+use Rattle.sweep.specs.Sweeps.{Ready, PartDone, target, newAt, costAt, windowRows}
+use Rattle.runs.specs.Runs.{Row, EdgeAt, FarEdge, Copied, placeOn, entryAt, inBlock, Planned, Walked, ResultPlan}
+use Rattle.runs.specs.declared.Grid.{Grid}
+use Rattle.runs.specs.declared.Plan.{Plan}
 use Rattle.sweep.specs.declared.Sweep.the-variants.{Result}
 use Rattle.sweep.proofs.Making.{small, start, made-block, made-across, made-early}
 use Rattle.sweep.proofs.Reading.{read-B, read-on}
-use Rattle.sweep.proofs.Planning.{pixel}
+use Rattle.runs.proofs.Planning.{pixel}
 use Rattle.sweep.proofs.Places.{from-entry, spot-ahead, spot-behind, row-end, far-fits, far-on}
 use Rattle.sweep.proofs.Parts.{Free, Charged, copied-part, walked-part}
 

@@ -5,14 +5,11 @@ use mathlib.Core.Logic.{_⊎_}
 use mathlib.Core.Path.{_≡_}
 use mathlib.Core.List.{List}
 use lib.ListN.{length, getD}
-use Rattle.sweep.specs.Grid.{Page, startRow, lineName, number, spot, fromStartAt, toEndAt, windowedAt, rightwardAt, leftwardAt, resultingAt}
-use Rattle.sweep.specs.declared.Grid.{Grid}
+use Rattle.runs.specs.Grid.{Page, startRow, lineName, number, spot, fromStartAt, toEndAt, windowedAt, rightwardAt, leftwardAt, resultingAt}
+use Rattle.runs.specs.declared.Grid.{Grid}
+use Rattle.runs.specs.Scratch.{size, total, Kept}
 use Rattle.sweep.specs.declared.Sweep.{Sweep}
 use Rattle.sweep.specs.declared.Sweep.the-variants.{Backward, Forward, Result}
-
--- the size of a page; page A stands at 0 in the scratch, page B behind it
-abbrev pub size : Grid → ℕ
-size g = g .height * g .width
 
 -- where a sweep writes: the backward one into B, the others into A
 unfoldable pub target : Sweep → Grid → ℕ
@@ -49,17 +46,6 @@ Ready Result g bytes f R x =
     (getD bytes (R * g .width + x) 0 ≡ fromStartAt g f R x)
     × RowsHold bytes 0 g (fromStartAt g f) (suc R) (windowRows g R)
     × RowsHold bytes (size g) g (toEndAt g f) 0 (g .height)
-
--- the sum of n numbers from the k-th on
-unfoldable pub total : (ℕ → ℕ) → ℕ → ℕ → ℕ
-total cost k zero = 0
-total cost k (suc n) = cost k + total cost (suc k) n
-
--- a part of the scratch is done, from lo up to hi, and the rest is as it was
-pub record Kept (lo hi : ℕ) (old new : List ℕ) : Type 0 where
-  pub same-length : length new ≡ length old
-  pub below : (k : ℕ) → k < lo → getD new k 0 ≡ getD old k 0
-  pub above : (k : ℕ) → hi ≤ k → getD new k 0 ≡ getD old k 0
 
 -- a result whose window begins in the line, a number of steps inside a block, with the running extreme from there to its end
 pub record Across (g : Grid) (bytes : List ℕ) (R t x inside rest : ℕ) : Type 0 where

@@ -4,15 +4,17 @@
 ghost use mathlib.Core.Path.{_≡_};
 ghost use Prim.Native.Nat.{suc, _+_, _*_, _-_, _≤_, _<_};
 ghost use lib.ListN.{length};
-ghost use Rattle.sweep.specs.Grid.{Sized};
-ghost use Rattle.sweep.specs.Runs.{Row, EdgeAt, Marked, AtBottom, Begun, WithinAt};
-ghost use Rattle.sweep.specs.Sweeps.{PartDone, size};
-use super::Grid;
+ghost use Rattle.runs.specs.Grid.{Sized};
+ghost use Rattle.sweep.specs.Bottom.{AtBottom, Begun, WithinAt};
+ghost use Rattle.runs.specs.Runs.{Row, EdgeAt, Marked};
+ghost use Rattle.runs.specs.Scratch.{size};
+ghost use Rattle.sweep.specs.Sweeps.{PartDone};
 use super::Sweep;
 use super::Within;
-use super::run;
-use super::step;
-use super::walk;
+use runs::Grid;
+use runs::run;
+use runs::step;
+use runs::walk;
 
 // How many more steps the page has from a row on.
 pub fn steps_left(g: Grid, row: usize) -> usize

@@ -4,15 +4,16 @@ ghost use mathlib.Core.Path.{_≡_};
 ghost use Prim.Native.Nat.{_+_, _*_, _<_, _≤_};
 ghost use lib.ListN.{length, getD};
 ghost use lib.Dec.{eqb};
-ghost use Rattle.sweep.specs.Span.{chosen};
-ghost use Rattle.sweep.specs.Grid.{Page, Sized, Pixel, startRow, lineName, number, windowedAt, resultingAt};
-ghost use Rattle.sweep.specs.GridLaws.{OnPage};
-ghost use Rattle.sweep.specs.Sweeps.{Ready, Across, size};
-use super::Grid;
+ghost use Rattle.runs.specs.Span.{chosen};
+ghost use Rattle.runs.specs.Grid.{Page, Sized, Pixel, startRow, lineName, number, windowedAt, resultingAt};
+ghost use Rattle.runs.specs.GridLaws.{OnPage};
+ghost use Rattle.runs.specs.Scratch.{size};
+ghost use Rattle.sweep.specs.Sweeps.{Ready, Across};
 use super::Made;
 use super::Sweep;
-use super::run;
-use super::step;
+use runs::Grid;
+use runs::run;
+use runs::step;
 
 // A value that cost nothing.
 fn as_is(value: u8) -> Made

@@ -6,16 +6,17 @@ ghost use mathlib.Core.Path.{_≡_};
 ghost use Prim.Native.Nat.{_+_, _*_, _-_, _%_, _≤_, _<_, max};
 ghost use lib.ListN.{length};
 ghost use Rattle.geometry.specs.Drift.{drift};
-ghost use Rattle.sweep.specs.Runs.{Row, FarEdge, Marked, Copied, Chosen, placeAt, StepEdge, PastLine};
-ghost use Rattle.sweep.specs.Sweeps.{PartDone, size};
-use super::Grid;
+ghost use Rattle.runs.specs.Runs.{Row, FarEdge, Marked, Copied, Chosen, placeAt, StepEdge, PastLine};
+ghost use Rattle.runs.specs.Scratch.{size};
+ghost use Rattle.sweep.specs.Sweeps.{PartDone};
 use super::Sweep;
 use super::bottom;
 use super::pixel;
-use super::plans;
-use super::run;
-use super::step;
-use super::walk;
+use runs::Grid;
+use runs::plans;
+use runs::run;
+use runs::step;
+use runs::walk;
 
 // The first column from lo on whose line has left the page by a step.
 fn step_edge(

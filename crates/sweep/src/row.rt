@@ -2,15 +2,16 @@
 ghost use mathlib.Core.Path.{_≡_};
 ghost use Prim.Native.Nat.{_+_, _≤_, _<_, min};
 ghost use lib.ListN.{length};
-ghost use Rattle.sweep.specs.Grid.{Sized, Tabled};
-ghost use Rattle.sweep.specs.Runs.{Row, EdgeAt, FarEdge, Marked};
-ghost use Rattle.sweep.specs.Sweeps.{PartDone, RowSwept, size};
-use super::Grid;
+ghost use Rattle.runs.specs.Grid.{Sized, Tabled};
+ghost use Rattle.runs.specs.Runs.{Row, EdgeAt, FarEdge, Marked};
+ghost use Rattle.runs.specs.Scratch.{size};
+ghost use Rattle.sweep.specs.Sweeps.{PartDone, RowSwept};
 use super::Sweep;
-use super::plans;
 use super::rest;
-use super::run;
-use super::walk;
+use runs::Grid;
+use runs::plans;
+use runs::run;
+use runs::walk;
 
 // The forward sweep: a page's first rows have nothing before them.
 pub fn forward_row(

@@ -2,15 +2,16 @@
 ghost use mathlib.Core.Path.{_≡_};
 ghost use Prim.Native.Nat.{_+_, _-_, _≤_, _<_};
 ghost use lib.ListN.{length};
-ghost use Rattle.sweep.specs.Grid.{Sized, Tabled};
-ghost use Rattle.sweep.specs.Runs.{Marked};
-ghost use Rattle.sweep.specs.Sweeps.{RowSwept, Raised, Lowered, SweptIf, lag, Passed, size};
-use super::Grid;
+ghost use Rattle.runs.specs.Grid.{Sized, Tabled};
+ghost use Rattle.runs.specs.Runs.{Marked};
+ghost use Rattle.runs.specs.Scratch.{size};
+ghost use Rattle.sweep.specs.Sweeps.{RowSwept, Raised, Lowered, SweptIf, lag, Passed};
 use super::Sweep;
-use super::marks;
 use super::row;
-use super::run;
-use super::walk;
+use runs::Grid;
+use runs::marks;
+use runs::run;
+use runs::walk;
 
 // One row of a sweep, and its comparisons.
 fn sweep_row(

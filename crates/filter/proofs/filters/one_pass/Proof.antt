@@ -5,9 +5,10 @@ use Prim.Native.Nat.{ℕ, _+_, _≤_}
 use native.Mathlib.Omega.{arith}
 use borrow.Author.Needs.{needs}
 use lib.ListN.{length}
-use Rattle.sweep.specs.declared.Grid.{Grid}
-use Rattle.sweep.specs.Sweeps.{size, Passed}
-use Rattle.sweep.specs.Grid.{Sized, Tabled}
+use Rattle.runs.specs.declared.Grid.{Grid}
+use Rattle.runs.specs.Scratch.{size}
+use Rattle.sweep.specs.Sweeps.{Passed}
+use Rattle.runs.specs.Grid.{Sized, Tabled}
 use Rattle.tray.specs.Laws.{sides-product}
 use Rattle.filter.specs.Seen.{boxesOf}
 use Rattle.filter.specs.Engine.{neutral, steepOf, fallsOf, gridOf, Painted}

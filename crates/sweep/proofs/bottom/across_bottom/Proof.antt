@@ -5,8 +5,9 @@ use native.Mathlib.Omega.{arith}
 use borrow.Author.Needs.{needs}
 use Rattle.sweep.specs.Sweeps.{PartDone, costAt}
 use Rattle.sweep.specs.declared.Sweep.the-variants.{Result}
-use Rattle.sweep.proofs.Planning.{here}
-use Rattle.sweep.proofs.Rowing.{part-none, part-join, total-most, cost-most}
+use Rattle.runs.proofs.Planning.{here}
+use Rattle.runs.proofs.Totals.{total-most}
+use Rattle.sweep.proofs.Rowing.{part-none, part-join, cost-most}
 use Rattle.sweep.proofs.Bottoming.{bottom-some}
 use Rattle.sweep.proofs.bottom.across_bottom.Statement.{statement}
 use Rattle.sweep.proofs.bottom.across_bottom.Tie as tie

@@ -4,8 +4,8 @@ use mathlib.Core.Path.{ap, _∙_}
 use mathlib.Core.Logic.{inl}
 use Prim.Native.Nat.{ℕ, _+_, _-_, _*_}
 use native.Mathlib.Omega.{arith}
-use Rattle.sweep.proofs.Bounds.{product}
-use Rattle.sweep.proofs.Planning.{here, own-near}
+use Rattle.runs.proofs.Bounds.{product}
+use Rattle.runs.proofs.Planning.{here, own-near}
 use Rattle.sweep.proofs.Places.{row-end}
 use Rattle.sweep.proofs.Resting.{back-row}
 use Rattle.sweep.proofs.Bottoming.{bottom-row, bottom-rises, bottom-below, place-after, first-reached, first-fits, second-fits, block-made}

@@ -6,7 +6,7 @@ use native.Mathlib.Omega.{arith}
 use Rattle.sweep.specs.Sweeps.{PartDone}
 use Rattle.sweep.specs.declared.Sweep.the-variants.{Result}
 use Rattle.sweep.proofs.Rowing.{part-none}
-use Rattle.sweep.proofs.Planning.{own-near}
+use Rattle.runs.proofs.Planning.{own-near}
 use Rattle.sweep.proofs.Places.{row-end}
 use Rattle.sweep.proofs.Resting.{copied-at, place-fits}
 use Rattle.sweep.proofs.Bottoming.{bottom-row, bottom-rises, bottom-below, place-after, early-bottom-made}

@@ -4,8 +4,8 @@ use native.Mathlib.Nat.{suc-mul, div-add-mod', mod-lt}
 use native.Mathlib.Omega.{arith}
 use borrow.Author.Needs.{needs}
 use Rattle.geometry.specs.Laws.{period-forward}
-use Rattle.sweep.specs.Grid.{Sized}
-use Rattle.sweep.specs.declared.Grid.{Grid}
+use Rattle.runs.specs.Grid.{Sized}
+use Rattle.runs.specs.declared.Grid.{Grid}
 use Rattle.sweep.proofs.bottom.steps_left.Statement.{statement}
 use Rattle.sweep.proofs.bottom.steps_left.Tie as tie
 

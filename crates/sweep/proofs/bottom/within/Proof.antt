@@ -4,8 +4,8 @@ use Prim.Native.Nat.{ℕ, _+_, _%_, _<_}
 use native.Mathlib.Nat.{mod-lt}
 use native.Mathlib.Omega.{arith}
 use borrow.Author.Needs.{needs}
-use Rattle.sweep.specs.Grid.{Sized}
-use Rattle.sweep.specs.declared.Grid.{Grid}
+use Rattle.runs.specs.Grid.{Sized}
+use Rattle.runs.specs.declared.Grid.{Grid}
 use Rattle.sweep.proofs.bottom.within.Statement.{statement}
 use Rattle.sweep.proofs.bottom.within.Tie as tie
 

@@ -4,11 +4,12 @@ use Prim.Native.Nat.{ℕ, _+_, _-_, zero-le}
 use native.Mathlib.Omega.{arith}
 use borrow.Author.Needs.{needs}
 use lib.ListN.{getD}
-use Rattle.sweep.specs.Span.{chosen}
-use Rattle.sweep.specs.Grid.{spot, startRow, lineName}
-use Rattle.sweep.specs.GridLaws.{row-fits}
-use Rattle.sweep.specs.Sweeps.{Ready, size}
-use Rattle.sweep.proofs.Bounds.{row}
+use Rattle.runs.specs.Span.{chosen}
+use Rattle.runs.specs.Grid.{spot, startRow, lineName}
+use Rattle.runs.specs.GridLaws.{row-fits}
+use Rattle.runs.specs.Scratch.{size}
+use Rattle.sweep.specs.Sweeps.{Ready}
+use Rattle.runs.proofs.Bounds.{row}
 use Rattle.sweep.proofs.Found.{found-below, found-off, found-on}
 use Rattle.sweep.proofs.Making.{small, numbered, made-cut, made-short}
 use Rattle.sweep.proofs.Reading.{read-B, inside-first, inside-below, rest-read}

@@ -1,7 +1,7 @@
 -- `sweep::pixel::is_off` meets its contract. Assumes nothing.
 use native.Mathlib.Omega.{arith}
 use borrow.Author.Needs.{needs}
-use Rattle.sweep.proofs.Bounds.{product}
+use Rattle.runs.proofs.Bounds.{product}
 use Rattle.sweep.proofs.pixel.is_off.Statement.{statement}
 use Rattle.sweep.proofs.pixel.is_off.Tie as tie
 

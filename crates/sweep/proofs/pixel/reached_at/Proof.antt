@@ -4,10 +4,11 @@ use Prim.Native.Nat.{ℕ, _+_, _-_, _%_, _≤_, zero-le}
 use native.Mathlib.Omega.{arith}
 use borrow.Author.Needs.{needs}
 use lib.ListN.{getD}
-use Rattle.sweep.specs.Grid.{number}
-use Rattle.sweep.specs.GridLaws.{row-fits}
-use Rattle.sweep.specs.Sweeps.{Ready, size}
-use Rattle.sweep.proofs.Bounds.{row}
+use Rattle.runs.specs.Grid.{number}
+use Rattle.runs.specs.GridLaws.{row-fits}
+use Rattle.runs.specs.Scratch.{size}
+use Rattle.sweep.specs.Sweeps.{Ready}
+use Rattle.runs.proofs.Bounds.{row}
 use Rattle.sweep.proofs.Found.{found-below}
 use Rattle.sweep.proofs.Making.{small, long, numbered, start, made-whole}
 use Rattle.sweep.proofs.Reading.{read-B}

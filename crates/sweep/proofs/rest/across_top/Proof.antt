@@ -3,11 +3,11 @@ use mathlib.Core.Path.{sym, ap, subst, _∙_}
 use Prim.Native.Nat.{ℕ, _+_, _-_, _%_, _<_}
 use native.Mathlib.Nat.{mod-lt, add-zero}
 use native.Mathlib.Omega.{arith}
-use Rattle.sweep.specs.Grid.{Sized}
+use Rattle.runs.specs.Grid.{Sized}
 use Rattle.sweep.specs.Sweeps.{PartDone}
-use Rattle.sweep.specs.declared.Grid.{Grid}
+use Rattle.runs.specs.declared.Grid.{Grid}
 use Rattle.sweep.specs.declared.Sweep.the-variants.{Result}
-use Rattle.sweep.proofs.Planning.{here}
+use Rattle.runs.proofs.Planning.{here}
 use Rattle.sweep.proofs.Rowing.{part-join}
 use Rattle.sweep.proofs.Resting.{cut-top, short-top}
 use Rattle.sweep.proofs.rest.across_top.Statement.{statement}

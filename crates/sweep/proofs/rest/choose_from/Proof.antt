@@ -3,8 +3,8 @@ use mathlib.Core.Path.{_≡_, sym, ap}
 use mathlib.Core.Logic.{inl}
 use Prim.Native.Nat.{ℕ, _+_, _-_, _*_, _≤_}
 use native.Mathlib.Omega.{arith}
-use Rattle.sweep.proofs.Bounds.{product}
-use Rattle.sweep.proofs.Planning.{here, own-near}
+use Rattle.runs.proofs.Bounds.{product}
+use Rattle.runs.proofs.Planning.{here, own-near}
 use Rattle.sweep.proofs.Places.{row-end}
 use Rattle.sweep.proofs.Resting.{back-row, place-back-fits, edge-row, place-edge-fits, chosen-none, chosen-as}
 use Rattle.sweep.proofs.rest.choose_from.Statement.{statement}

@@ -3,13 +3,14 @@ use mathlib.Core.Path.{_≡_, sym, ap, subst}
 use Prim.Native.Nat.{ℕ, _+_, _*_, _-_, _≤_, _<_}
 use native.Mathlib.Nat.{zero-add}
 use native.Mathlib.Omega.{arith}
-use Rattle.sweep.specs.Grid.{resultingAt}
+use Rattle.runs.specs.Grid.{resultingAt}
 use Rattle.sweep.specs.Sweeps.{PartDone, target, newAt, costAt}
-use Rattle.sweep.specs.declared.Grid.{Grid}
+use Rattle.runs.specs.declared.Grid.{Grid}
 use Rattle.sweep.specs.declared.Sweep.the-variants.{Result}
-use Rattle.sweep.proofs.Planning.{pixel, own-near}
+use Rattle.runs.proofs.Planning.{pixel, own-near}
 use Rattle.sweep.proofs.Places.{row-end}
-use Rattle.sweep.proofs.Rowing.{part-none, part-one, part-join, total-most, cost-most}
+use Rattle.runs.proofs.Totals.{total-most}
+use Rattle.sweep.proofs.Rowing.{part-none, part-one, part-join, cost-most}
 use Rattle.sweep.proofs.rest.each_part.Statement.{statement}
 use Rattle.sweep.proofs.rest.each_part.Tie as tie
 

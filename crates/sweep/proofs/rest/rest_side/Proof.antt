@@ -5,9 +5,10 @@ use Prim.Native.Nat.{ℕ, _-_, zero-le}
 use native.Mathlib.Omega.{arith}
 use borrow.Author.Needs.{needs}
 use Rattle.sweep.specs.Sweeps.{PartDone, costAt}
-use Rattle.sweep.specs.declared.Grid.{Grid}
+use Rattle.runs.specs.declared.Grid.{Grid}
 use Rattle.sweep.specs.declared.Sweep.the-variants.{Result}
-use Rattle.sweep.proofs.Rowing.{part-join, total-most, cost-most}
+use Rattle.runs.proofs.Totals.{total-most}
+use Rattle.sweep.proofs.Rowing.{part-join, cost-most}
 use Rattle.sweep.proofs.Bottoming.{far-zero}
 use Rattle.sweep.proofs.rest.rest_side.Statement.{statement}
 use Rattle.sweep.proofs.rest.rest_side.Tie as tie

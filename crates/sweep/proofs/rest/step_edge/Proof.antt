@@ -3,10 +3,10 @@ use mathlib.Core.Path.{sym, ap₂, subst, _∙_}
 use Prim.Native.Nat.{ℕ, _-_}
 use native.Mathlib.Omega.{arith}
 use borrow.Author.Needs.{needs}
-use Rattle.sweep.specs.Runs.{StepEdge}
-use Rattle.sweep.proofs.Bounds.{product}
-use Rattle.sweep.proofs.Planning.{here}
-use Rattle.sweep.proofs.Resting.{to-below, drift-near, edge-past, edge-whole, edge-lost, edge-cut}
+use Rattle.runs.specs.Runs.{StepEdge}
+use Rattle.runs.proofs.Bounds.{product}
+use Rattle.runs.proofs.Planning.{here, to-below, drift-near}
+use Rattle.sweep.proofs.Resting.{edge-past, edge-whole, edge-lost, edge-cut}
 use Rattle.sweep.proofs.rest.step_edge.Statement.{statement}
 use Rattle.sweep.proofs.rest.step_edge.Tie as tie
 

@@ -7,7 +7,7 @@ use borrow.Author.Needs.{needs}
 use Rattle.sweep.specs.Sweeps.{PartDone}
 use Rattle.sweep.specs.declared.Sweep.the-variants.{Result}
 use Rattle.sweep.proofs.Rowing.{part-none}
-use Rattle.sweep.proofs.Planning.{own-near}
+use Rattle.runs.proofs.Planning.{own-near}
 use Rattle.sweep.proofs.Places.{row-end, far-rows, far-fits, far-on}
 use Rattle.sweep.proofs.Resulting.{early-made}
 use Rattle.sweep.proofs.row.early_part.Statement.{statement}

@@ -5,7 +5,8 @@ use native.Mathlib.Nat.{zero-add}
 use native.Mathlib.Omega.{arith}
 use Rattle.sweep.specs.Sweeps.{costAt, RowSwept}
 use Rattle.sweep.specs.declared.Sweep.the-variants.{Result}
-use Rattle.sweep.proofs.Rowing.{part-join, total-most, cost-most}
+use Rattle.runs.proofs.Totals.{total-most}
+use Rattle.sweep.proofs.Rowing.{part-join, cost-most}
 use Rattle.sweep.proofs.row.result_row.Statement.{statement}
 use Rattle.sweep.proofs.row.result_row.Tie as tie
 

@@ -4,9 +4,10 @@ use mathlib.Core.Logic.{inr}
 use Prim.Native.Nat.{ℕ, suc, _+_, _-_, _*_, _≤_}
 use native.Mathlib.Nat.{mul-le-mul-right}
 use native.Mathlib.Omega.{arith}
-use Rattle.sweep.specs.Sweeps.{Raised, size}
+use Rattle.runs.specs.Scratch.{size}
+use Rattle.sweep.specs.Sweeps.{Raised}
 use Rattle.sweep.specs.declared.Sweep.the-variants.{Backward}
-use Rattle.sweep.proofs.Bounds.{product}
+use Rattle.runs.proofs.Bounds.{product}
 use Rattle.sweep.proofs.Paging.{raised-none, raised-at, up-more, band-raised, row-few, total-small}
 use Rattle.sweep.proofs.rows.backward_band.Statement.{statement}
 use Rattle.sweep.proofs.rows.backward_band.Tie as tie

@@ -4,7 +4,7 @@ use Prim.Native.Nat.{ℕ, _*_, _≤_, min, max}
 use native.Mathlib.Omega.{arith}
 use borrow.Author.Needs.{needs}
 use Rattle.sweep.specs.Sweeps.{lag}
-use Rattle.sweep.proofs.Bounds.{product}
+use Rattle.runs.proofs.Bounds.{product}
 use Rattle.sweep.proofs.rows.lag_of.Statement.{statement}
 use Rattle.sweep.proofs.rows.lag_of.Tie as tie
 

@@ -5,7 +5,7 @@ use native.Mathlib.Omega.{arith}
 use borrow.Author.Needs.{needs}
 use Rattle.geometry.specs.Line.{period, stepOf}
 use Rattle.geometry.specs.Laws.{period-forward}
-use Rattle.sweep.specs.declared.Grid.{Grid}
+use Rattle.runs.specs.declared.Grid.{Grid}
 use Rattle.sweep.proofs.rows.sweep_row.Statement.{statement}
 use Rattle.sweep.proofs.rows.sweep_row.Tie as tie
 
