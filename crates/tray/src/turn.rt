@@ -19,9 +19,6 @@ ghost use Rattle.tray.specs.Turned.{compactOf};
 ghost use Rattle.tray.specs.Promises.{Placed, PageIn, compactPixel};
 ghost use Rattle.tray.specs.Pieces.{Alike, Turnable, Stored, Taken, Part, PutRows, copiedPixel, sourcePixel, turnedPixel, stepOf};
 
-// How many tiles side by side make a band.
-const ACROSS: usize = 8;
-
 // A page and its transposed page. Where readup is true the source's rows are taken from the last one up, and where writeup is true the
 // target's rows are filled from the last one up.
 pub struct Turn {
@@ -195,16 +192,24 @@ fn turn_band(from: &[u8], t: Turn, to: &mut [u8], a: usize, n: usize)
     turn_rows(from, t, to, a, a + SIDE * n, b);
 }
 
-// How many tiles side by side the next band has, where so many columns of the source are left. With more of them more of a row is read at
-// a time, but more rows are written to by turns than the cache keeps apart.
-fn tiles_across(left: usize) -> usize
+// How many tiles side by side a band has at most, on a page of so many rows. With more of them more of a row is read at a time, but more rows
+// are written to by turns, which on small pages fall on the same places of the cache.
+fn most_across(rows: usize) -> usize
+    ensures { λ n. ⌜ (1 ≤ n) × (n ≤ 16) ⌝ }
+{
+    if rows < 2048 { 4 } else { 16 }
+}
+
+// How many the next band has, where so many columns of the source are left.
+fn tiles_across(rows: usize, left: usize) -> usize
     requires { ⌜ 16 ≤ left ⌝ }
     ensures { λ n. ⌜ (1 ≤ n) × (16 * n ≤ left) ⌝ }
 {
-    if left < ACROSS * SIDE {
+    let most = most_across(rows);
+    if left < most * SIDE {
         return left / SIDE;
     }
-    ACROSS
+    most
 }
 
 // The target's rows in bands, as far as tiles go. It answers how many rows are filled.
@@ -215,7 +220,7 @@ fn turn_bands(from: &[u8], t: Turn, to: &mut [u8]) -> usize
     let height = t.target.height;
     let mut a: usize = 0;
     while SIDE <= height - a {
-        let n = tiles_across(height - a);
+        let n = tiles_across(t.source.height, height - a);
         turn_band(from, t, to, a, n);
         a += SIDE * n;
     }
