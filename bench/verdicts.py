@@ -52,13 +52,19 @@ def _faster_than_opencv(measured):
 
 
 def _near_memcpy(measured):
+    yield "(c) against memcpy, A4 page"
+    yield from _times_memcpy(measured, "to one place", lambda copy: copy.in_place)
+    yield "    a job's trays and scratch, four pages, may be larger than the last cache where two are not; so also against"
+    yield from _times_memcpy(measured, "through pages that take turns", lambda copy: copy.in_turn)
+
+
+def _times_memcpy(measured, how, ns):
     cases = [case for case in _openings(measured, 51) if case.page == "A4"]
-    figures = {case: measured.times[case][OURS].ns / measured.copy_of(case).in_place for case in cases}
+    figures = {case: measured.times[case][OURS].ns / ns(measured.copy_of(case)) for case in cases}
     down = {case: ratio for case, ratio in figures.items() if case.slope == (0, 1)}
     others = {case: ratio for case, ratio in figures.items() if case.slope != (0, 1)}
-    yield "(c) against memcpy, A4 page"
-    yield from _verdict("opening at L = 51 along (0,1), under 12 times memcpy", down, 12)
-    yield from _verdict("opening at L = 51 along every other slope, under 20 times memcpy", others, 20)
+    yield from _verdict(f"opening at L = 51 along (0,1), under 12 times memcpy {how}", down, 12)
+    yield from _verdict(f"opening at L = 51 along every other slope, under 20 times memcpy {how}", others, 20)
 
 
 def _cheap_boxes(measured):

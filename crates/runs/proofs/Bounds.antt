@@ -9,19 +9,22 @@ use Rattle.geometry.specs.Drift.{drift, reach}
 use Rattle.geometry.specs.Laws.{period-forward, drift-bound, reach-by}
 use mathlib.Core.List.{List}
 use lib.ListN.{getD}
-use Rattle.runs.specs.Grid.{Pixel, startRow, lineName, entry}
+use Rattle.runs.specs.Grid.{Sized, Pixel, startRow, lineName, entry}
 use Rattle.runs.specs.declared.Grid.{Grid}
+
+pub some-length : {g : Grid} → Sized g → 0 < g .length
+some-length sized = omega (arith, sized .length-is)
 
 module _ (g : Grid) (profile reaches : List ℕ) (R t x : ℕ) (at : Pixel g profile reaches R t x) where
   -- a row, its step and its start
-  pub record Row : Type 0 where
+  pub record RowPlace : Type 0 where
     pub rows : t * g .period ≤ R
     pub start : startRow g R + t * g .period ≡ R
     pub step-below : t < g .height
     pub drift-below : drift (g .line) t < g .height
     pub drift-read : getD profile t 0 ≡ drift (g .line) t
 
-  pub row : Row
+  pub row : RowPlace
   unfolding startRow stepOf
   row =
       let p : ℕ = period (g .line) in

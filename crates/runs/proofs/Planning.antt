@@ -18,7 +18,7 @@ module _ (g : Grid) (profile reaches : List ℕ) (R t : ℕ) (at : Row g profile
   pub pixel : (x : ℕ) → x < g .width → Pixel g profile reaches R t x
   pixel x h = record { sized = at .sized; tabled = at .tabled; row = at .row; column = h; step = at .step }
 
-  pub here : bounds.Row g profile reaches R t 0 (pixel 0 (at .sized .wide))
+  pub here : bounds.RowPlace g profile reaches R t 0 (pixel 0 (at .sized .wide))
   here = bounds.row g profile reaches R t 0 (pixel 0 (at .sized .wide))
 
   pub name : (x : ℕ) → x < g .width → lineName g R x ≡ g .width + drift (g .line) t - x

@@ -19,7 +19,7 @@ use Rattle.runs.specs.Span.{chosen}
 use Rattle.runs.specs.Runs.{Apart, Filled, Copied, Chosen, keptOr, comparedOf, TopMade, Row, entryAt, EdgeAt, Marked, inBlock, Planned, Walked}
 use Rattle.runs.specs.declared.Grid.{Grid}
 use Rattle.runs.specs.declared.Plan.{Plan}
-use Rattle.runs.proofs.Bounds.{entry-zero, entry-reach}
+use Rattle.runs.proofs.Bounds.{some-length, entry-zero, entry-reach}
 use Rattle.runs.proofs.Planning.{pixel, here, name}
 use Rattle.runs.proofs.Totals.{total-join, total-same, total-shift, total-most, cond-most}
 use Rattle.runs.proofs.Running.{filled-as}
@@ -102,12 +102,9 @@ mark-entered g profile reaches R t at marks y place marked column side is =
     ap (λ (i : ℕ). getD marks i 0) (omega arith) ∙ marked .mark-is v (omega arith) (omega arith) ∙ ap (λ (q : ℕ). q % g .length) entered
 
 module _ (g : Grid) (profile reaches : List ℕ) (R t : ℕ) (at : Row g profile reaches R t) (p : Plan) (planned : Planned g R p) where
-  long : 0 < g .length
-  long = omega (arith, at .sized .length-is)
-
   inside : (y : ℕ) → p .lo ≤ y → y < p .hi → eqb (entryAt g R y % g .length) (p .top % g .length) ≡ eqb (inBlock g R p y) 0
   unfolding inBlock
-  inside y l h = eqb-mod (g .length) (entryAt g R y) (p .top) long (planned .entered y l h)
+  inside y l h = eqb-mod (g .length) (entryAt g R y) (p .top) (some-length (at .sized)) (planned .entered y l h)
 
   -- where its line entered from the side, a pixel's mark says it
   side-keeps : (marks : List ℕ) (y place : ℕ) → Marked g marks → p .lo ≤ y → y < p .hi → y < drift (g .line) t → place ≡ y + g .height - drift (g .line) t
@@ -122,7 +119,7 @@ module _ (g : Grid) (profile reaches : List ℕ) (R t : ℕ) (at : Row g profile
   spare-keeps marks y place marked l h reached near is =
       let read : getD marks place 0 ≡ 0 = ap (λ (i : ℕ). getD marks i 0) (omega arith) ∙ marked .zero-is (y - drift (g .line) t) (omega arith) in
       let none : 0 ≡ entryAt g R y = entry-zero g profile reaches R t y (pixel g profile reaches R t at y (omega (arith, planned .columns))) reached in
-      let zero : 0 % g .length ≡ 0 = mod-eq-of-lt long in
+      let zero : 0 % g .length ≡ 0 = mod-eq-of-lt (some-length (at .sized)) in
       ap (λ (q : ℕ). eqb q (p .top % g .length)) (read ∙ sym zero ∙ ap (λ (q : ℕ). q % g .length) none) ∙ inside y l h
 
   pub mark-keeps : (marks : List ℕ) (y place : ℕ) → Marked g marks → p .lo ≤ y → y < p .hi → y < drift (g .line) t + 32 → place ≡ y + g .height - drift (g .line) t

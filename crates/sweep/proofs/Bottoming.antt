@@ -23,6 +23,7 @@ use Rattle.sweep.specs.declared.Within.{Within}
 use Rattle.sweep.specs.declared.Sweep.the-variants.{Result}
 use Rattle.sweep.proofs.Making.{small, start, made-within, made-last, made-short-line}
 use Rattle.sweep.proofs.Reading.{read-B, read-within}
+use Rattle.runs.proofs.Bounds.{some-length}
 use Rattle.runs.proofs.Planning.{pixel, here, name, row-on, on, target-is}
 use Rattle.sweep.proofs.Places.{from-entry, far-rows}
 use Rattle.sweep.proofs.Parts.{Free, Charged, Told, copied-part, unless-part}
@@ -195,7 +196,7 @@ module _ (g : Grid) (profile reaches : List ℕ) (R t : ℕ) (at : Row g profile
         where
           told : (y : ℕ) → lo ≤ y → y < hi → Told Result g R old (λ k. inOneBlock (w .last) (w .near) (w .far) (getD marks (place + k) 0)) lo hi (R * g .width + lo) first second new y
           told y l h =
-              let long : 0 < g .length = omega (arith, at .sized .length-is) in
+              let long = some-length (at .sized) in
               let entered = begun y l h in
               let mark : getD marks (place + (y - lo)) 0 ≡ entryAt g R y % g .length =
               mark-entered g profile reaches R t at marks y (place + (y - lo)) marked (omega (arith, low .most)) (omega (arith, low .side)) (omega (arith, here g profile reaches R t at .drift-below)) in

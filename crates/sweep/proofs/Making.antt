@@ -14,6 +14,7 @@ use Rattle.runs.specs.BlockLaws.{fromStart-first, fromStart-next, toEnd-last, t
 use Rattle.runs.specs.Grid.{Page, Pixel, startRow, lineName, entry, leave, steps, rowAt, columnAt, along, number, lineSteps, toEndAt, fromStartAt, windowedAt, rightwardAt, leftwardAt, resultingAt}
 use Rattle.runs.specs.GridLaws.{OnPage, on-line, on-page, own-step, start-small, row-again, column-again, number-is, number-below, page-on, toEnd-on, fromStart-on}
 use Rattle.runs.specs.declared.Grid.{Grid}
+use Rattle.runs.proofs.Bounds.{some-length}
 
 module _ (g : Grid) (profile reaches : List ℕ) (R t x : ℕ) (at : Pixel g profile reaches R t x) where
   abbrev pub u : ℕ
@@ -26,7 +27,7 @@ module _ (g : Grid) (profile reaches : List ℕ) (R t x : ℕ) (at : Pixel g pro
   small = start-small g (at .sized) R x (at .row) (at .column)
 
   pub long : 0 < g .length
-  long = omega (arith, at .sized .length-is)
+  long = some-length (at .sized)
 
   pub own : OnPage g u z t
   own = subst (OnPage g u z) (sym (at .step)) (own-step g (at .sized) R x (at .row) (at .column))

@@ -9,13 +9,9 @@ use mathlib.Core.List.{List}
 use lib.ListN.{getD, getD-replicate, length-set}
 use lib.ListN as lists
 use lib.Seq.{getD-set-same, getD-set-other}
-use Rattle.runs.specs.Grid.{Sized}
-use Rattle.runs.specs.declared.Grid.{Grid}
+use Rattle.runs.proofs.Bounds.{some-length}
 use Rattle.runs.proofs.marks.fill_marks.Statement.{statement}
 use Rattle.runs.proofs.marks.fill_marks.Tie as tie
-
-long : {g : Grid} → Sized g → 0 < g .length
-long sized = omega (arith, sized .length-is)
 
 room : {marks : List ℕ} → marks ≡ lists.replicate 8224 0 → lists.length marks ≡ 8224
 room is = ap lists.length is ∙ lists.length-replicate {A = ℕ} 8224 0
@@ -38,7 +34,7 @@ rem-marks c = omega (arith, c .before .before .before .before .before .before .p
 cast-marks : tie.Need-cast-marks Inv-loop μ-loop
 cast-marks c =
     let sized = c .before .before .before .before .before .before .pre .0 in
-    record { fits = omega (arith, mod-lt (c .entry-of .result) (long sized), sized .length-most) }
+    record { fits = omega (arith, mod-lt (c .entry-of .result) (some-length sized), sized .length-most) }
 
 sub-marks : tie.Need-sub-marks Inv-loop μ-loop
 sub-marks c = omega (arith, c .before .loop-test .taken)

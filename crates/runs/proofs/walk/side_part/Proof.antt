@@ -7,9 +7,8 @@ use native.Mathlib.Omega.{arith}
 use borrow.Author.Needs.{needs}
 use lib.Dec.{eqb}
 use lib.ListN.{getD}
-use Rattle.runs.specs.Grid.{Sized}
 use Rattle.runs.specs.Runs.{Walked}
-use Rattle.runs.specs.declared.Grid.{Grid}
+use Rattle.runs.proofs.Bounds.{some-length}
 use Rattle.runs.proofs.Planning.{here}
 use Rattle.runs.proofs.Running.{compared-few}
 use Rattle.runs.proofs.Walking.{step-below, mark-keeps, walked-none, walked-few, walked-more}
@@ -27,17 +26,14 @@ entry-of-requires c κs =
     let at = c .before .before .before .before .pre .0 .0 in
     omega (arith, step-below _ _ _ _ _ at, at .tabled .profile-long)
 
-long : (g : Grid) → Sized g → 0 < g .length
-long g sized = omega (arith, sized .length-is)
-
 rem-mark : tie.Need-rem-mark Inv-loop μ-loop
-rem-mark c = long _ (c .before .before .before .before .before .before .before .pre .0 .0 .sized)
+rem-mark c = some-length (c .before .before .before .before .before .before .before .pre .0 .0 .sized)
 
 cast-mark : tie.Need-cast-mark Inv-loop μ-loop
 cast-mark c =
     let start = c .before .before .before .before .before .before .before in
     let sized = start .pre .0 .0 .sized in
-    record { fits = omega (arith, mod-lt (start .args .p .top) (long _ sized), sized .length-most) }
+    record { fits = omega (arith, mod-lt (start .args .p .top) (some-length sized), sized .length-most) }
 
 loop-holds : tie.Need-loop-holds Inv-loop μ-loop
 loop-holds c = (omega arith, c .before .before .before .before .before .before .before .pre .1 .1, walked-none _ _ _ _)

@@ -3,18 +3,14 @@ use mathlib.Core.Path.{sym, ap, subst, _∙_}
 use Prim.Native.Nat.{ℕ, _+_, _-_, _%_, _<_}
 use native.Mathlib.Nat.{mod-lt, add-zero}
 use native.Mathlib.Omega.{arith}
-use Rattle.runs.specs.Grid.{Sized}
 use Rattle.sweep.specs.Sweeps.{PartDone}
-use Rattle.runs.specs.declared.Grid.{Grid}
 use Rattle.sweep.specs.declared.Sweep.the-variants.{Result}
+use Rattle.runs.proofs.Bounds.{some-length}
 use Rattle.runs.proofs.Planning.{here}
 use Rattle.sweep.proofs.Rowing.{part-join}
 use Rattle.sweep.proofs.Resting.{cut-top, short-top}
 use Rattle.sweep.proofs.rest.across_top.Statement.{statement}
 use Rattle.sweep.proofs.rest.across_top.Tie as tie
-
-long : (g : Grid) → Sized g → 0 < g .length
-long g sized = omega (arith, sized .length-is)
 
 sub-next : tie.Need-sub-next
 sub-next c = c .before .before .before .before .pre .1 .2
@@ -22,7 +18,7 @@ sub-next c = c .before .before .before .before .pre .1 .2
 sub-next-2 : tie.Need-sub-next-2
 sub-next-2 c =
     let start = c .before .before .before .before .before in
-    omega (arith, start .pre .1 .3, mod-lt (start .args .step - start .args .g .back) (long _ (start .pre .0 .0 .sized)))
+    omega (arith, start .pre .1 .3, mod-lt (start .args .step - start .args .g .back) (some-length (start .pre .0 .0 .sized)))
 
 add-next : tie.Need-add-next
 add-next c =
