@@ -1,35 +1,31 @@
--- From the source tray into the scratch and out again: what stands in the scratch is the finished page. Assumes nothing.
-use mathlib.Core.Path.{_≡_, refl, sym, ap, ap₂, _∙_, subst, subst₂, subst₃}
+-- From its buffer into the scratch and out again: what stands in the scratch is the filtered page. Assumes nothing.
+use mathlib.Core.Path.{_≡_, refl, sym, ap, _∙_, subst, subst₂}
 use mathlib.Core.Bool.{Bool, true, false, not, _&&_, cond, and-false}
 use mathlib.Core.Option.{Option, none, some, Option·some-injective, Option·none-ne-some}
 use mathlib.Core.List.{List}
-use mathlib.Core.Logic.{by-cases}
-use Prim.Native.Nat.{ℕ, _+_, _*_, _≤_, _<_, max}
-use native.Mathlib.Nat.{mul-assoc}
-use native.Mathlib.Decide.{decLt}
+use Prim.Native.Nat.{ℕ, _+_, _*_, _≤_, _<_}
 use native.Mathlib.Omega.{arith}
 use lib.Dec.{ltb}
 use lib.ListN.{length, getD}
-use lib.Seq.{ext-getD}
 use borrow.Author.Tests.{lt-ltb, le-ltb}
+use Rattle.boxes.specs.Boxes.{hidden}
 use Rattle.geometry.specs.Drift.{drift, reach}
 use Rattle.geometry.specs.Tables.{ProfileTable, ReachTable}
 use Rattle.geometry.specs.declared.Line.{Line}
 use Rattle.runs.specs.Grid.{Tabled}
 use Rattle.ticket.specs.declared.HiddenBox.{HiddenBox}
-use Rattle.ticket.specs.declared.Ticket.{Ticket}
-use Rattle.tray.specs.Placement.{pixelIn, scratchNeeded}
+use Rattle.tray.specs.Placement.{pixelIn}
 use Rattle.tray.specs.Promises.{Placed, PageIn, compactPixel}
-use Rattle.tray.specs.Written.{written, cleared}
-use Rattle.tray.specs.Laws.{length-cleared, cleared-below, cleared-above, written-same}
+use Rattle.tray.specs.Written.{written}
+use Rattle.tray.specs.Laws.{written-same}
 use Rattle.tray.specs.Turned.{acrossOf, downOf, compactAt}
 use Rattle.tray.specs.declared.Placement.{Placement}
-use Rattle.filter.specs.Seen.{boxesOf, lineOf, hidden, seen, turned}
-use Rattle.filter.specs.Filters.{View, filtered, orWhite, finished}
+use Rattle.filter.specs.Seen.{View, seen, turned}
+use Rattle.filter.specs.Filters.{operated, filtered, orWhite, recipeBoxes, filteredPage}
 use Rattle.filter.specs.Work.{workOf}
-use Rattle.filter.specs.Job.{sourcePage, outputPage}
-use Rattle.filter.specs.Engine.{Absent, Bytes, steepOf, fallsOf, gridOf, placeOf, Held, Painted, PassDone, BoxesLie, Runs, Tables, Enters, Fits, Ready, GivenOut, Finished}
-use Rattle.filter.specs.declared.Placements.{Placements}
+use Rattle.filter.specs.Engine.{Absent, Bytes, steepOf, fallsOf, gridOf, placeOf, Held, Painted, PassDone, BoxesLie, Runs, Tables, Enters, Ready}
+use Rattle.filter.specs.Promises.{Fits, Filtered}
+use Rattle.filter.specs.declared.Recipe.{Recipe}
 
 -- ---- the page as it is seen
 
@@ -38,124 +34,106 @@ unfolding turned
 turned-twice true page c r = refl
 turned-twice false page c r = refl
 
-module _ (boxes : List HiddenBox) (p : Placement) (source : List ℕ) where
-  seen-wide : (c r : ℕ) → p .width ≤ c → seen boxes p source c r ≡ none
+module _ (boxes : List HiddenBox) (width height : ℕ) (pixel : ℕ → ℕ → ℕ) where
+  seen-wide : (c r : ℕ) → width ≤ c → seen boxes width height pixel c r ≡ none
   unfolding seen
-  seen-wide c r h = rw (le-ltb c (p .width) h) refl
+  seen-wide c r h = rw (le-ltb c width h) refl
 
-  seen-low : (c r : ℕ) → p .height ≤ r → seen boxes p source c r ≡ none
+  seen-low : (c r : ℕ) → height ≤ r → seen boxes width height pixel c r ≡ none
   unfolding seen
-  seen-low c r h = rw (le-ltb r (p .height) h, and-false (ltb c (p .width))) refl
+  seen-low c r h = rw (le-ltb r height h, and-false (ltb c width)) refl
 
-  seen-hidden : (c r : ℕ) → hidden boxes c r ≡ true → seen boxes p source c r ≡ none
+  seen-hidden : (c r : ℕ) → hidden boxes c r ≡ true → seen boxes width height pixel c r ≡ none
   unfolding seen
-  seen-hidden c r e = rw (e, and-false (ltb c (p .width) && ltb r (p .height))) refl
+  seen-hidden c r e = rw (e, and-false (ltb c width && ltb r height)) refl
 
-  seen-shown : (c r : ℕ) → c < p .width → r < p .height → hidden boxes c r ≡ false → seen boxes p source c r ≡ some (pixelIn source p c r)
+  seen-shown : (c r : ℕ) → c < width → r < height → hidden boxes c r ≡ false → seen boxes width height pixel c r ≡ some (pixel c r)
   unfolding seen
-  seen-shown c r c-in r-in e = rw (e, lt-ltb c (p .width) c-in, lt-ltb r (p .height) r-in) refl
+  seen-shown c r c-in r-in e = rw (e, lt-ltb c width c-in, lt-ltb r height r-in) refl
 
   picked : (b : Bool) (x v : ℕ) → cond b (some x) none ≡ some v → x ≡ v
   picked true x v e = Option·some-injective x v e
   picked false x v e = absurd (Option·none-ne-some v e)
 
-  seen-value : (c r v : ℕ) → seen boxes p source c r ≡ some v → pixelIn source p c r ≡ v
+  seen-value : (c r v : ℕ) → seen boxes width height pixel c r ≡ some v → pixel c r ≡ v
   unfolding seen
-  seen-value c r v e = picked ((ltb c (p .width) && ltb r (p .height)) && not (hidden boxes c r)) (pixelIn source p c r) v e
+  seen-value c r v e = picked ((ltb c width && ltb r height) && not (hidden boxes c r)) (pixel c r) v e
 
-  seen-small : ((k : ℕ) → getD source k 0 < 256) → (c r v : ℕ) → seen boxes p source c r ≡ some v → v ≤ 255
-  unfolding pixelIn
-  seen-small bytes c r v e = let same : pixelIn source p c r ≡ v = seen-value c r v e in omega (arith, bytes (Rattle.tray.specs.Placement.byteOf p c r))
+  seen-small : ((c r : ℕ) → pixel c r < 256) → (c r v : ℕ) → seen boxes width height pixel c r ≡ some v → v ≤ 255
+  seen-small bytes c r v e = let same : pixel c r ≡ v = seen-value c r v e in omega (arith, bytes c r)
 
   -- by its axes, it is absent past the sides
-  absent-turned : (steep : Bool) → Absent (downOf steep (p .width) (p .height)) (acrossOf steep (p .width) (p .height)) (turned steep (seen boxes p source))
+  absent-turned : (steep : Bool) → Absent (downOf steep width height) (acrossOf steep width height) (turned steep (seen boxes width height pixel))
   unfolding turned downOf acrossOf
   absent-turned true = record { below = λ M m h. seen-low m M h; beside = λ M m h. seen-wide m M h }
   absent-turned false = record { below = λ M m h. seen-wide M m h; beside = λ M m h. seen-low M m h }
 
-  bytes-turned : ((k : ℕ) → getD source k 0 < 256) → (steep : Bool) → Bytes (turned steep (seen boxes p source))
+  bytes-turned : ((c r : ℕ) → pixel c r < 256) → (steep : Bool) → Bytes (turned steep (seen boxes width height pixel))
   unfolding turned Bytes
   bytes-turned bytes true M m v e = seen-small bytes m M v e
   bytes-turned bytes false M m v e = seen-small bytes M m v e
 
 -- ---- into the scratch, filtered, hidden pixels white
 
-module _ (t : Ticket) (p : Placements) (source : List ℕ) (bytes : (k : ℕ) → getD source k 0 < 256) where
-  abbrev page : View
-  page = turned (steepOf t) (seen (boxesOf t) (sourcePage p) source)
+module _ (how : Recipe) (p : Placement) (source : List ℕ) (bytes : (k : ℕ) → getD source k 0 < 256) where
+  pixel-small : (c r : ℕ) → pixelIn source p c r < 256
+  unfolding pixelIn
+  pixel-small c r = bytes (Rattle.tray.specs.Placement.byteOf p c r)
 
-  entered : (before after : List ℕ) → PageIn source (sourcePage p) (steepOf t) (fallsOf t) before after → Held t (p .width) (p .height) page after
-  unfolding sourcePage
+  abbrev shown : View
+  shown = seen (recipeBoxes how) (p .width) (p .height) (pixelIn source p)
+
+  abbrev page : View
+  page = turned (steepOf how) shown
+
+  entered : (before after : List ℕ) → PageIn source p (steepOf how) (fallsOf how) before after → Held how (p .width) (p .height) page after
   entered before after into =
       record {
-        absent = absent-turned (boxesOf t) (sourcePage p) source (steepOf t);
-        bytes = bytes-turned (boxesOf t) (sourcePage p) source bytes (steepOf t);
-        none-there = λ r r-in c c-in e. turned-twice (steepOf t) (seen (boxesOf t) (sourcePage p) source) c r ∙ seen-hidden (boxesOf t) (sourcePage p) source c r e;
+        absent = absent-turned (recipeBoxes how) (p .width) (p .height) (pixelIn source p) (steepOf how);
+        bytes = bytes-turned (recipeBoxes how) (p .width) (p .height) (pixelIn source p) pixel-small (steepOf how);
+        none-there = λ r r-in c c-in e.
+            turned-twice (steepOf how) shown c r ∙ seen-hidden (recipeBoxes how) (p .width) (p .height) (pixelIn source p) c r e;
         one-there = λ r r-in c c-in e.
-            turned-twice (steepOf t) (seen (boxesOf t) (sourcePage p) source) c r
-            ∙ seen-shown (boxesOf t) (sourcePage p) source c r c-in r-in e
+            turned-twice (steepOf how) shown c r
+            ∙ seen-shown (recipeBoxes how) (p .width) (p .height) (pixelIn source p) c r c-in r-in e
             ∙ ap some (sym (into .pixel r r-in c c-in));
       }
 
-  module _ (one two three four : List ℕ) (work : ℕ) (into : PageIn source (sourcePage p) (steepOf t) (fallsOf t) one two) (through : PassDone t (p .width) (p .height) (filtered t) (workOf t (p .width) (p .height)) 6 two three work) (whited : Painted (boxesOf t) (steepOf t) (fallsOf t) (p .width) (p .height) 255 three four) where
-    held : Held t (p .width) (p .height) (filtered t page) three
+  module _ (one two three four : List ℕ) (work : ℕ) (into : PageIn source p (steepOf how) (fallsOf how) one two) (through : PassDone how (p .width) (p .height) (operated (how .operation) (how .segment)) (workOf (how .operation) (how .segment) (p .width) (p .height)) 6 two three work) (whited : Painted (recipeBoxes how) (steepOf how) (fallsOf how) (p .width) (p .height) (how .white) three four) where
+    held : Held how (p .width) (p .height) (operated (how .operation) (how .segment) page) three
     held = through .page page (entered one two into)
 
-    pixel-by : (hid : Bool) (c r : ℕ) → hidden (boxesOf t) c r ≡ hid → c < p .width → r < p .height → getD four (placeOf t (p .width) (p .height) c r) 0 ≡ finished t (sourcePage p) source c r
-    unfolding finished orWhite
-    pixel-by true c r e c-in r-in = whited .hides r r-in c c-in e ∙ sym (ap orWhite (held .none-there r r-in c c-in e))
-    pixel-by false c r e c-in r-in = whited .shows r r-in c c-in e ∙ sym (ap orWhite (held .one-there r r-in c c-in e))
+    pixel-by :
+        (hid : Bool) (c r : ℕ) → hidden (recipeBoxes how) c r ≡ hid → c < p .width → r < p .height
+        → getD four (placeOf how (p .width) (p .height) c r) 0 ≡ filteredPage how (p .width) (p .height) (pixelIn source p) c r
+    unfolding filteredPage filtered orWhite
+    pixel-by true c r e c-in r-in = whited .hides r r-in c c-in e ∙ sym (ap (orWhite (how .white)) (held .none-there r r-in c c-in e))
+    pixel-by false c r e c-in r-in = whited .shows r r-in c c-in e ∙ sym (ap (orWhite (how .white)) (held .one-there r r-in c c-in e))
 
-    pub ready : Ready t p source one four work
-    unfolding sourcePage
+    pub ready : Ready how p source one four work
     ready =
         record {
           same-length = whited .same-length ∙ through .same-length ∙ into .size;
           rest = λ i h. whited .rest i (omega arith) ∙ through .rest i h ∙ into .rest i (omega arith);
-          pixel = λ r r-in c c-in. pixel-by (hidden (boxesOf t) c r) c r refl c-in r-in;
+          pixel = λ r r-in c c-in. pixel-by (hidden (recipeBoxes how) c r) c r refl c-in r-in;
           work-is = through .counted;
           work-few = through .few;
         }
 
--- ---- out of it
-
--- clearing forgets what the cleared bytes held
-cleared-same : (n : ℕ) (a b : List ℕ) → length a ≡ length b → n ≤ length b → ((i : ℕ) → n ≤ i → getD a i 0 ≡ getD b i 0) → cleared n a ≡ cleared n b
-cleared-same n a b size room rest =
-    ext-getD 0 (cleared n a) (cleared n b) (length-cleared n a (omega arith) ∙ size ∙ sym (length-cleared n b room))
-    (λ i h. by-cases (decLt i n)
-    (λ low. cleared-below n a i low ∙ sym (cleared-below n b i low))
-    (λ high. cleared-above n a i (omega arith) ∙ rest i (omega arith) ∙ sym (cleared-above n b i (omega arith))))
-
--- the scratch that a job needs has room for two pages
-pub room-two : (w h n : ℕ) → scratchNeeded w h ≤ n → w * h + w * h ≤ n
-unfolding scratchNeeded
-room-two w h n room = omega (arith, mul-assoc 2 w h)
-
-module _ (t : Ticket) (p : Placements) (source output scratch mid used after : List ℕ) (work : ℕ) where
-  pub finished-all : scratchNeeded (p .width) (p .height) ≤ length scratch → Ready t p source scratch mid work → GivenOut t p mid output used after → Finished t p source output scratch after used work
-  unfolding outputPage compactPixel
-  finished-all room ready out =
-      record {
-        written-is = out .written-is ∙ written-same (outputPage p) _ _ output (λ r r-in c c-in. ready .pixel r r-in c c-in);
-        used-is = out .used-is ∙ cleared-same (scratchNeeded (p .width) (p .height)) mid scratch (ready .same-length) room (λ i h. ready .rest i (room-two (p .width) (p .height) i h));
-        work-is = ready .work-is;
-      }
-
 -- ---- the tables
 
-pub tables : (t : Ticket) (n : ℕ) (profile reaches : List ℕ) → length profile ≡ n → length reaches ≡ n → ProfileTable (lineOf t) profile → ReachTable (lineOf t) (length profile) reaches → Tables t n profile reaches
-tables t n profile reaches np nr profiled reached =
+pub tables : (how : Recipe) (n : ℕ) (profile reaches : List ℕ) → length profile ≡ n → length reaches ≡ n → ProfileTable (how .segment .line) profile → ReachTable (how .segment .line) (length profile) reaches → Tables how n profile reaches
+tables how n profile reaches np nr profiled reached =
     record {
       profile-size = np;
       reaches-size = nr;
       profile-is = λ i h. profiled .entry i (omega arith);
-      reaches-is = λ v h. reached .entry v (omega arith) ∙ ap (reach (lineOf t) v) np;
+      reaches-is = λ v h. reached .entry v (omega arith) ∙ ap (reach (how .segment .line) v) np;
     }
 
-pub tabled : (t : Ticket) (width height : ℕ) (profile reaches : List ℕ) → Tables t (downOf (steepOf t) width height) profile reaches → (low : Bool) → Tabled (gridOf t width height low) profile reaches
+pub tabled : (how : Recipe) (width height : ℕ) (profile reaches : List ℕ) → Tables how (downOf (steepOf how) width height) profile reaches → (low : Bool) → Tabled (gridOf how width height low) profile reaches
 unfolding gridOf
-tabled t width height profile reaches all low =
+tabled how width height profile reaches all low =
     record {
       profile-long = omega (arith, all .profile-size);
       reaches-long = omega (arith, all .reaches-size);
@@ -163,71 +141,64 @@ tabled t width height profile reaches all low =
       reaches-is = all .reaches-is;
     }
 
-pub tables-as : (t : Ticket) (n : ℕ) (line : Line) (profile reaches : List ℕ) → line ≡ lineOf t → length profile ≡ n → length reaches ≡ n → ProfileTable line profile
-    → ((l : Line) → ProfileTable l profile → ReachTable l (length profile) reaches) → Tables t n profile reaches
-tables-as t n line profile reaches is np nr profiled reached =
-    let mine : ProfileTable (lineOf t) profile = subst (λ (l : Line). ProfileTable l profile) is profiled in
-    tables t n profile reaches np nr mine (reached (lineOf t) mine)
+pub tables-as : (how : Recipe) (n : ℕ) (line : Line) (profile reaches : List ℕ) → line ≡ how .segment .line → length profile ≡ n → length reaches ≡ n → ProfileTable line profile
+    → ((l : Line) → ProfileTable l profile → ReachTable l (length profile) reaches) → Tables how n profile reaches
+tables-as how n line profile reaches is np nr profiled reached =
+    let mine : ProfileTable (how .segment .line) profile = subst (λ (l : Line). ProfileTable l profile) is profiled in
+    tables how n profile reaches np nr mine (reached (how .segment .line) mine)
+
+pub tables-long : (how : Recipe) (n m : ℕ) (profile reaches : List ℕ) → n ≡ m → Tables how n profile reaches → Tables how m profile reaches
+tables-long how n m profile reaches e all = subst (λ (k : ℕ). Tables how k profile reaches) e all
+
+pub rows-most : (steep : Bool) (how : Recipe) (width height : ℕ) → BoxesLie how width height → downOf steep width height ≤ 8192
+unfolding downOf
+rows-most true how width height lie = lie .height-most
+rows-most false how width height lie = lie .width-most
 
 -- ---- what the code found, as the laws have it
 
-one-page : (p : Placements) (n : ℕ) → p .width * p .height + p .width * p .height ≤ n → sourcePage p .width * sourcePage p .height ≤ n
-unfolding sourcePage
-one-page p n h = omega arith
-
-module _ (t : Ticket) (p : Placements) (source scratch : ℕ) (enters : Enters t p source scratch) where
-  pub page-in-asks : (q : Placement) → q ≡ sourcePage p → Placed q source × (q .width * q .height ≤ scratch)
-  page-in-asks q is = subst (λ (x : Placement). Placed x source × (x .width * x .height ≤ scratch)) (sym is) (enters .from, one-page p scratch (room-two (p .width) (p .height) scratch (enters .room)))
-
-  pub runs-asks : (profile reaches : List ℕ) → Tables t (downOf (steepOf t) (p .width) (p .height)) profile reaches → (n : ℕ) → n ≡ scratch → Runs t (p .width) (p .height) profile reaches n
-  runs-asks profile reaches all n same =
-      record {
-        ticket = enters .ticket;
-        boxes = enters .boxes;
-        tables = tabled t (p .width) (p .height) profile reaches all;
-        two-pages = omega (arith, room-two (p .width) (p .height) scratch (enters .room));
-      }
-
-pub ready-as : (t : Ticket) (p : Placements) (source : List ℕ) → ((k : ℕ) → getD source k 0 < 256) → (q : Placement) (steep falling : Bool) (one two three four : List ℕ) (work : ℕ)
-    → q ≡ sourcePage p → steep ≡ steepOf t → falling ≡ fallsOf t → PageIn source q steep falling one two
-    → PassDone t (p .width) (p .height) (filtered t) (workOf t (p .width) (p .height)) 6 two three work
-    → Painted (boxesOf t) steep falling (p .width) (p .height) 255 three four → Ready t p source one four work
-ready-as t p source bytes q steep falling one two three four work eq es ef into through whited =
-    ready t p source bytes one two three four work
-    (subst₃ (λ (x : Placement) (s f : Bool). PageIn source x s f one two) eq es ef into)
-    through
-    (subst₂ (λ (s f : Bool). Painted (boxesOf t) s f (p .width) (p .height) 255 three four) es ef whited)
-
--- ---- giving out
-
-output-sides : (p : Placements) → outputPage p .width * outputPage p .height ≡ p .width * p .height
-unfolding outputPage
-output-sides p = refl
-
-pub sides-most : (p : Placements) (n : ℕ) → Placed (outputPage p) n → (p .width ≤ 8192) × (p .height ≤ 8192)
-unfolding outputPage
-sides-most p n placed = (placed .width-most, placed .height-most)
-
-pub page-out-asks : (p : Placements) (output scratch : ℕ) → Placed (outputPage p) output → scratchNeeded (p .width) (p .height) ≤ scratch → (q : Placement) → q ≡ outputPage p → Placed q output × (q .width * q .height ≤ scratch)
-page-out-asks p output scratch placed room q is =
-    subst (λ (x : Placement). Placed x output × (x .width * x .height ≤ scratch)) (sym is)
-    (placed, omega (arith, output-sides p, room-two (p .width) (p .height) scratch room))
-
-pub given-out : (t : Ticket) (p : Placements) (steep falling : Bool) (q : Placement) (n : ℕ) (scratch output used after : List ℕ)
-    → steep ≡ steepOf t → falling ≡ fallsOf t → q ≡ outputPage p → n ≡ scratchNeeded (p .width) (p .height)
-    → after ≡ written q (compactPixel scratch steep falling q) output → used ≡ cleared n scratch → GivenOut t p scratch output used after
-given-out t p steep falling q n scratch output used after es ef eq en out clear =
+pub runs-asks :
+    (how : Recipe) (p : Placement) (source scratch : ℕ) → Enters how p source scratch → (profile reaches : List ℕ)
+    → Tables how (downOf (steepOf how) (p .width) (p .height)) profile reaches → (n : ℕ) → n ≡ scratch
+    → Runs how (p .width) (p .height) profile reaches n
+runs-asks how p source scratch enters profile reaches all n same =
     record {
-      written-is = subst₃ (λ (s f : Bool) (x : Placement). after ≡ written x (compactPixel scratch s f x) output) es ef eq out;
-      used-is = clear ∙ ap (λ (k : ℕ). cleared k scratch) en;
+      segment = enters .segment;
+      boxes = enters .boxes;
+      tables = tabled how (p .width) (p .height) profile reaches all;
+      two-pages = omega (arith, enters .room);
     }
 
--- ---- the tables of a page that fits
+pub ready-as :
+    (how : Recipe) (p : Placement) (source : List ℕ) → ((k : ℕ) → getD source k 0 < 256) → (steep falling : Bool)
+    (one two three four : List ℕ) (work : ℕ) → steep ≡ steepOf how → falling ≡ fallsOf how → PageIn source p steep falling one two
+    → PassDone how (p .width) (p .height) (operated (how .operation) (how .segment)) (workOf (how .operation) (how .segment) (p .width) (p .height)) 6 two three work
+    → Painted (recipeBoxes how) steep falling (p .width) (p .height) (how .white) three four → Ready how p source one four work
+ready-as how p source bytes steep falling one two three four work es ef into through whited =
+    ready how p source bytes one two three four work
+    (subst₂ (λ (s f : Bool). PageIn source p s f one two) es ef into)
+    through
+    (subst₂ (λ (s f : Bool). Painted (recipeBoxes how) s f (p .width) (p .height) (how .white) three four) es ef whited)
 
-pub rows-most : (steep : Bool) (t : Ticket) (width height : ℕ) → BoxesLie t width height → downOf steep width height ≤ 8192
-unfolding downOf
-rows-most true t width height lie = lie .height-most
-rows-most false t width height lie = lie .width-most
+-- ---- out of it
 
-pub tables-long : (t : Ticket) (n m : ℕ) (profile reaches : List ℕ) → n ≡ m → Tables t n profile reaches → Tables t m profile reaches
-tables-long t n m profile reaches e all = subst (λ (k : ℕ). Tables t k profile reaches) e all
+pub given-out :
+    (how : Recipe) (from to : Placement) (source output scratch used after : List ℕ) (work n m k : ℕ) → Fits how from to n m k
+    → (steep falling : Bool) → steep ≡ steepOf how → falling ≡ fallsOf how → Ready how from source scratch used work
+    → after ≡ written to (compactPixel used steep falling to) output → Filtered how from to source output scratch after used work
+unfolding compactPixel
+given-out how from to source output scratch used after work n m k fits steep falling es ef ready out =
+    record {
+      written-is =
+          out ∙ written-same to _ _ output (λ r r-in c c-in. place c r ∙ ready .pixel r (omega (arith, fits .same-height)) c (omega (arith, fits .same-width)));
+      same-length = ready .same-length;
+      rest = ready .rest;
+      work-is = ready .work-is;
+      work-few = ready .work-few;
+    }
+  where
+    place : (c r : ℕ) → getD used (compactAt steep falling (to .width) (to .height) c r) 0 ≡ getD used (placeOf how (from .width) (from .height) c r) 0
+    place c r = rw (es, ef, fits .same-width, fits .same-height) refl
+
+pub page-room : (how : Recipe) (from to : Placement) (n m k : ℕ) → Fits how from to n m k → to .width * to .height ≤ k
+page-room how from to n m k fits = rw (fits .same-width, fits .same-height) (omega (arith, fits .enters .room))

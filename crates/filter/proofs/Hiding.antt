@@ -13,8 +13,7 @@ use Rattle.ticket.specs.declared.HiddenBox.{HiddenBox}
 use Rattle.tray.specs.Turned.{compactAt, Within, boxed}
 use Rattle.tray.specs.Promises.{OnPage, BoxPainted}
 use Rattle.tray.specs.declared.boxes.Rectangle.{Rectangle}
-use Rattle.filter.specs.Seen.{covers, hidden}
-use Rattle.filter.specs.Job.{boxAllowed}
+use Rattle.boxes.specs.Boxes.{covers, hidden, boxAllowed}
 use Rattle.filter.specs.Engine.{Painted}
 use Rattle.filter.proofs.Both.{and-true}
 
@@ -124,3 +123,9 @@ module _ (boxes : List HiddenBox) (k : ℕ) (b : HiddenBox) (below : k < length 
             box .shown r r-in c c-in (λ w. true≢false (sym (within-covers b c r w) ∙ neither .1)) ∙ done .shows r r-in c c-in (neither .0);
         rest = λ i h. box .rest i h ∙ done .rest i h;
       }
+
+-- an element is the one at its place, whatever stands for a missing one
+pub own-default {ℓ} : {A : Type ℓ} (xs : List A) (i : ℕ) (d : A) → getD xs i d ≡ getD xs i (getD xs i d)
+own-default [] i d = refl
+own-default (x ∷ xs) zero d = refl
+own-default (x ∷ xs) (suc i) d = own-default xs i d

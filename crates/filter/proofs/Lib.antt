@@ -5,8 +5,7 @@ pub mod Extremes
 pub mod Finishing
 pub mod Grids
 pub mod Hiding
-pub mod Judging
 pub mod Neutral
-pub mod Passes
+pub mod Kept
 pub mod Passing
 pub mod Steps

@@ -12,7 +12,8 @@ use Rattle.geometry.specs.Drift.{falls, mirrored}
 use Rattle.runs.specs.Span.{chosen, best}
 use Rattle.runs.specs.Grid.{Page}
 use Rattle.runs.specs.declared.Grid.{Grid}
-use Rattle.filter.specs.Filters.{View, joined, extreme}
+use Rattle.filter.specs.Seen.{View}
+use Rattle.filter.specs.Filters.{joined, extreme}
 use Rattle.filter.specs.Engine.{neutral, orNeutral}
 
 -- ---- one value

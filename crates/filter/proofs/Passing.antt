@@ -7,25 +7,25 @@ use Prim.Native.Nat.{ℕ, _+_, _*_, _≤_, _<_, zero-le}
 use native.Mathlib.Nat.{zero-add, add-comm, mul-le-mul-left, mul-le-mul-right}
 use native.Mathlib.Omega.{arith}
 use lib.Dec.{eqb}
-use borrow.Author.Tests.{eq-eqb, ne-eqb}
+use borrow.Author.Tests.{eq-eqb, ne-eqb, eqb-false}
 use lib.ListN.{length, getD}
 use Rattle.geometry.specs.Drift.{falls, mirrored}
 use Rattle.runs.specs.Grid.{Page, Sized, Tabled, windowedAt}
 use Rattle.runs.specs.Scratch.{size}
 use Rattle.sweep.specs.Sweeps.{RowsHold, Passed}
 use Rattle.runs.specs.declared.Grid.{Grid}
-use Rattle.ticket.specs.Laws.{Allowed}
-use Rattle.ticket.specs.declared.Ticket.{Ticket}
+use Rattle.filter.specs.declared.Recipe.{Recipe}
 use Rattle.tray.specs.Turned.{acrossOf, downOf, compactColumn, compactAt}
 use Rattle.tray.specs.Laws.{down-in, across-in, compact-column-in, sides-product}
-use Rattle.filter.specs.Seen.{boxesOf, lineOf, hidden, turned}
-use Rattle.filter.specs.Filters.{View, pass, eroded, dilationBack, dilated, opened, closed, filtered}
-use Rattle.filter.specs.Work.{passWork, workOf}
-use Rattle.filter.specs.Engine.{neutral, orNeutral, Absent, Bytes, Shows, steepOf, fallsOf, backOf, gridOf, placeOf, Held, Painted, BoxesLie, Runs, PassDone}
+use Rattle.boxes.specs.Boxes.{hidden}
+use Rattle.filter.specs.Seen.{View, turned}
+use Rattle.filter.specs.Filters.{pass, eroded, dilationBack, dilated, opened, closed, operated, recipeBoxes}
+use Rattle.filter.specs.Work.{passWork, erosionWork, dilationWork, workOf}
+use Rattle.filter.specs.Engine.{neutral, orNeutral, Absent, Bytes, Shows, steepOf, fallsOf, backOf, passed, passCost, gridOf, placeOf, Held, Painted, BoxesLie, Fair, Runs, PassDone}
 use Rattle.filter.proofs.Bridge.{bridge}
 use Rattle.filter.proofs.Charges.{work}
 use Rattle.filter.proofs.Grids.{grid-sized}
-use Rattle.filter.proofs.Passes.{pass-bytes, pass-absent, pass-off}
+use Rattle.filter.proofs.Kept.{pass-bytes, pass-absent, pass-off}
 
 -- ---- columns and rows, and places on the axes
 
@@ -59,48 +59,48 @@ column-as steep falling width height c r h = h
 
 -- ---- one pass
 
-module _ (t : Ticket) (ok : Allowed t) (width height : ℕ) (lie : BoxesLie t width height) (low : Bool) where
+module _ (how : Recipe) (ok : Fair (how .segment)) (width height : ℕ) (lie : BoxesLie how width height) (low : Bool) where
   abbrev W : ℕ
-  W = acrossOf (steepOf t) width height
+  W = acrossOf (steepOf how) width height
 
   abbrev H : ℕ
-  H = downOf (steepOf t) width height
+  H = downOf (steepOf how) width height
 
   abbrev g : Grid
-  g = gridOf t width height low
+  g = gridOf how width height low
 
   sized : Sized g
-  sized = grid-sized t ok width height (lie .wide) (lie .high) (lie .width-most) (lie .height-most) low
+  sized = grid-sized how ok width height (lie .wide) (lie .high) (lie .width-most) (lie .height-most) low
 
   -- a pixel's place, by its axes
-  place-is : (c r : ℕ) → placeOf t width height c r ≡ downOf (steepOf t) c r * W + mirrored (fallsOf t) W (acrossOf (steepOf t) c r)
+  place-is : (c r : ℕ) → placeOf how width height c r ≡ downOf (steepOf how) c r * W + mirrored (fallsOf how) W (acrossOf (steepOf how) c r)
   unfolding compactAt compactColumn
   place-is c r = refl
 
-  module _ (old mid new : List ℕ) (count : ℕ) (painted : Painted (boxesOf t) (steepOf t) (fallsOf t) width height (neutral low) old mid) (passed : Passed g mid new count) where
+  module _ (old mid new : List ℕ) (count : ℕ) (painted : Painted (recipeBoxes how) (steepOf how) (fallsOf how) width height (neutral low) old mid) (swept : Passed g mid new count) where
     -- the page that the sweeps see
     abbrev f : Page
     f R x = getD mid (0 + (R * W + x)) 0
 
     -- the place of (M, m), found by its column and row
-    found : (M m : ℕ) → M < H → m < W → f M (mirrored (fallsOf t) W m) ≡ getD mid (placeOf t width height (downOf (steepOf t) M m) (acrossOf (steepOf t) M m)) 0
+    found : (M m : ℕ) → M < H → m < W → f M (mirrored (fallsOf how) W m) ≡ getD mid (placeOf how width height (downOf (steepOf how) M m) (acrossOf (steepOf how) M m)) 0
     found M m rows columns =
-        let p = pixel (steepOf t) width height M m rows columns in
+        let p = pixel (steepOf how) width height M m rows columns in
         ap (λ (i : ℕ). getD mid i 0)
-        (zero-add (M * W + mirrored (fallsOf t) W m)
-        ∙ ap₂ (λ (a b : ℕ). a * W + mirrored (fallsOf t) W b) (sym (p .down)) (sym (p .across))
-        ∙ sym (place-is (downOf (steepOf t) M m) (acrossOf (steepOf t) M m)))
+        (zero-add (M * W + mirrored (fallsOf how) W m)
+        ∙ ap₂ (λ (a b : ℕ). a * W + mirrored (fallsOf how) W b) (sym (p .down)) (sym (p .across))
+        ∙ sym (place-is (downOf (steepOf how) M m) (acrossOf (steepOf how) M m)))
 
-    module _ (page : View) (held : Held t width height page old) where
-      shown-by : (hid : Bool) (M m : ℕ) → M < H → m < W → hidden (boxesOf t) (downOf (steepOf t) M m) (acrossOf (steepOf t) M m) ≡ hid → f M (mirrored (fallsOf t) W m) ≡ orNeutral low (page M m)
+    module _ (page : View) (held : Held how width height page old) where
+      shown-by : (hid : Bool) (M m : ℕ) → M < H → m < W → hidden (recipeBoxes how) (downOf (steepOf how) M m) (acrossOf (steepOf how) M m) ≡ hid → f M (mirrored (fallsOf how) W m) ≡ orNeutral low (page M m)
       unfolding orNeutral
       shown-by true M m rows columns e =
-          let p = pixel (steepOf t) width height M m rows columns in
-          let there : page M m ≡ none = sym (turned-back (steepOf t) page M m) ∙ held .none-there _ (p .row) _ (p .column) e in
+          let p = pixel (steepOf how) width height M m rows columns in
+          let there : page M m ≡ none = sym (turned-back (steepOf how) page M m) ∙ held .none-there _ (p .row) _ (p .column) e in
           found M m rows columns ∙ painted .hides _ (p .row) _ (p .column) e ∙ sym (ap (orNeutral low) there)
       shown-by false M m rows columns e =
-          let p = pixel (steepOf t) width height M m rows columns in
-          let there = sym (turned-back (steepOf t) page M m) ∙ held .one-there _ (p .row) _ (p .column) e in
+          let p = pixel (steepOf how) width height M m rows columns in
+          let there = sym (turned-back (steepOf how) page M m) ∙ held .one-there _ (p .row) _ (p .column) e in
           found M m rows columns ∙ painted .shows _ (p .row) _ (p .column) e ∙ sym (ap (orNeutral low) there)
 
       shows : Shows g page f
@@ -112,115 +112,81 @@ module _ (t : Ticket) (ok : Allowed t) (width height : ℕ) (lie : BoxesLie t wi
       absent = held .absent
 
       abbrev after : View
-      after = pass low (lineOf t) (backOf t low) (t .length) page
+      after = pass low (how .segment .line) (backOf (how .segment) low) (how .segment .length) page
 
       made : (M : ℕ) → M < H → (x : ℕ) → x < W → getD new (0 + (M * W + x)) 0 ≡ windowedAt g f M x
       unfolding RowsHold gridOf
-      made M rows x columns = passed .made f (λ R lo hi x′ k. refl) M zero-le rows x columns
+      made M rows x columns = swept .made f (λ R lo hi x′ k. refl) M zero-le rows x columns
 
-      one-after : (r : ℕ) → r < height → (c : ℕ) → c < width → hidden (boxesOf t) c r ≡ false → turned (steepOf t) after c r ≡ some (getD new (placeOf t width height c r) 0)
+      one-after : (r : ℕ) → r < height → (c : ℕ) → c < width → hidden (recipeBoxes how) c r ≡ false → turned (steepOf how) after c r ≡ some (getD new (placeOf how width height c r) 0)
       unfolding gridOf
       one-after r r-in c c-in e =
-          let M : ℕ = downOf (steepOf t) c r in
-          let m : ℕ = acrossOf (steepOf t) c r in
-          let rows : M < H = down-in (steepOf t) c r width height c-in r-in in
-          let columns : m < W = across-in (steepOf t) c r width height c-in r-in in
-          let there = sym (turned-is (steepOf t) page c r) ∙ held .one-there r r-in c c-in e in
+          let M : ℕ = downOf (steepOf how) c r in
+          let m : ℕ = acrossOf (steepOf how) c r in
+          let rows : M < H = down-in (steepOf how) c r width height c-in r-in in
+          let columns : m < W = across-in (steepOf how) c r width height c-in r-in in
+          let there = sym (turned-is (steepOf how) page c r) ∙ held .one-there r r-in c c-in e in
           let value = bridge g sized page absent (held .bytes) f shows M m _ rows columns there in
-          let column = compact-column-in (steepOf t) (fallsOf t) width height c r c-in r-in in
-          turned-is (steepOf t) after c r
+          let column = compact-column-in (steepOf how) (fallsOf how) width height c r c-in r-in in
+          turned-is (steepOf how) after c r
           ∙ value
-          ∙ ap some (sym (ap (λ (i : ℕ). getD new i 0) (place-is c r ∙ sym (zero-add _)) ∙ made M rows (mirrored (fallsOf t) W m) (column-as (steepOf t) (fallsOf t) width height c r column)))
+          ∙ ap some (sym (ap (λ (i : ℕ). getD new i 0) (place-is c r ∙ sym (zero-add _)) ∙ made M rows (mirrored (fallsOf how) W m) (column-as (steepOf how) (fallsOf how) width height c r column)))
 
-      pub held-after : Held t width height after new
+      pub held-after : Held how width height after new
       held-after =
           record {
-            absent = pass-off low (lineOf t) (backOf t low) (t .length) H W page (held .absent);
-            bytes = pass-bytes page (held .bytes) low (lineOf t) (backOf t low) (t .length);
+            absent = pass-off low (how .segment .line) (backOf (how .segment) low) (how .segment .length) H W page (held .absent);
+            bytes = pass-bytes page (held .bytes) low (how .segment .line) (backOf (how .segment) low) (how .segment .length);
             none-there = λ r r-in c c-in e.
-                turned-is (steepOf t) after c r
-                ∙ pass-absent low (lineOf t) (backOf t low) (t .length) page _ _ (sym (turned-is (steepOf t) page c r) ∙ held .none-there r r-in c c-in e);
+                turned-is (steepOf how) after c r
+                ∙ pass-absent low (how .segment .line) (backOf (how .segment) low) (how .segment .length) page _ _ (sym (turned-is (steepOf how) page c r) ∙ held .none-there r r-in c c-in e);
             one-there = one-after;
           }
 
-    pub pass-done : PassDone t width height (pass low (lineOf t) (backOf t low) (t .length)) (passWork (lineOf t) H W (t .length) (backOf t low)) 3 old new count
+    pub pass-done : PassDone how width height (passed how low) (passCost how width height low) 3 old new count
     unfolding gridOf
     pass-done =
-        let product = sides-product (steepOf t) width height in
+        let product = sides-product (steepOf how) width height in
         record {
-          same-length = passed .kept .same-length ∙ painted .same-length;
-          rest = λ i h. passed .kept .above i (omega arith) ∙ painted .rest i (omega arith);
+          same-length = swept .kept .same-length ∙ painted .same-length;
+          rest = λ i h. swept .kept .above i (omega arith) ∙ painted .rest i (omega arith);
           page = held-after;
-          counted = passed .counted ∙ sym (work g sized);
-          few = omega (arith, passed .most);
+          counted = swept .counted ∙ sym (work g sized);
+          few = omega (arith, swept .most);
         }
 
 -- ---- what the code found, as the laws have it
 
-two-pages : (t : Ticket) (width height : ℕ) (low : Bool) (n : ℕ) → width * height + width * height ≤ n → size (gridOf t width height low) + size (gridOf t width height low) ≤ n
+two-pages : (how : Recipe) (width height : ℕ) (low : Bool) (n : ℕ) → width * height + width * height ≤ n → size (gridOf how width height low) + size (gridOf how width height low) ≤ n
 unfolding gridOf
-two-pages t width height low n h = omega (arith, sides-product (steepOf t) width height)
+two-pages how width height low n h = omega (arith, sides-product (steepOf how) width height)
 
-pub painted-as : (t : Ticket) (steep falling : Bool) (value width height : ℕ) (low : Bool) (old mid : List ℕ) → steep ≡ steepOf t → falling ≡ fallsOf t → value ≡ neutral low
-    → Painted (boxesOf t) steep falling width height value old mid → Painted (boxesOf t) (steepOf t) (fallsOf t) width height (neutral low) old mid
-painted-as t steep falling value width height low old mid es ef ev painted =
-    subst₃ (λ (s f : Bool) (v : ℕ). Painted (boxesOf t) s f width height v old mid) es ef ev painted
+pub painted-as : (how : Recipe) (steep falling : Bool) (value width height : ℕ) (low : Bool) (old mid : List ℕ) → steep ≡ steepOf how → falling ≡ fallsOf how → value ≡ neutral low
+    → Painted (recipeBoxes how) steep falling width height value old mid → Painted (recipeBoxes how) (steepOf how) (fallsOf how) width height (neutral low) old mid
+painted-as how steep falling value width height low old mid es ef ev painted =
+    subst₃ (λ (s f : Bool) (v : ℕ). Painted (recipeBoxes how) s f width height v old mid) es ef ev painted
 
 pub passed-as : (g h : Grid) (old new : List ℕ) (count : ℕ) → g ≡ h → Passed g old new count → Passed h old new count
-passed-as g h old new count e passed = subst (λ (q : Grid). Passed q old new count) e passed
+passed-as g h old new count e swept = subst (λ (q : Grid). Passed q old new count) e swept
 
 -- what a pass asks of its grid
-pub pass-asks : (t : Ticket) (width height : ℕ) (profile reaches : List ℕ) (room : ℕ) → Runs t width height profile reaches room → (low : Bool) (g : Grid) → g ≡ gridOf t width height low → (n : ℕ) → n ≡ room
+pub pass-asks : (how : Recipe) (width height : ℕ) (profile reaches : List ℕ) (room : ℕ) → Runs how width height profile reaches room → (low : Bool) (g : Grid) → g ≡ gridOf how width height low → (n : ℕ) → n ≡ room
     → Sized g × Tabled g profile reaches × (size g + size g ≤ n)
-pass-asks t width height profile reaches room runs low g is n same =
+pass-asks how width height profile reaches room runs low g is n same =
     subst (λ (q : Grid). Sized q × Tabled q profile reaches × (size q + size q ≤ n)) (sym is)
-    (grid-sized t (runs .ticket) width height (lie .wide) (lie .high) (lie .width-most) (lie .height-most) low, runs .tables low, two)
+    (grid-sized how (runs .segment) width height (lie .wide) (lie .high) (lie .width-most) (lie .height-most) low, runs .tables low, two)
   where
-    lie : BoxesLie t width height
+    lie : BoxesLie how width height
     lie = runs .boxes
 
-    two : size (gridOf t width height low) + size (gridOf t width height low) ≤ n
-    two = two-pages t width height low n (omega (arith, runs .two-pages))
-
--- ---- the operations, number by number
-
-filtered-erode : (t : Ticket) (page : View) → t .operation ≡ 1 → filtered t page ≡ eroded t page
-unfolding filtered
-filtered-erode t page e = rw (eq-eqb (t .operation) 1 e) refl
-
-filtered-dilate : (t : Ticket) (page : View) → t .operation ≡ 2 → filtered t page ≡ dilated t page
-unfolding filtered
-filtered-dilate t page e = rw (ne-eqb (t .operation) 1 (λ o. omega arith), eq-eqb (t .operation) 2 e) refl
-
-filtered-open : (t : Ticket) (page : View) → (t .operation ≡ 1 → ⊥) → (t .operation ≡ 2 → ⊥) → eqb (t .operation) 3 ≡ true → filtered t page ≡ dilated t (eroded t page)
-unfolding filtered opened
-filtered-open t page one two e = rw (ne-eqb (t .operation) 1 one, ne-eqb (t .operation) 2 two, e) refl
-
-filtered-close : (t : Ticket) (page : View) → (t .operation ≡ 1 → ⊥) → (t .operation ≡ 2 → ⊥) → eqb (t .operation) 3 ≡ false → filtered t page ≡ eroded t (dilated t page)
-unfolding filtered closed
-filtered-close t page one two e = rw (ne-eqb (t .operation) 1 one, ne-eqb (t .operation) 2 two, e) refl
-
-module _ (t : Ticket) (width height : ℕ) where
-  work-erode : t .operation ≡ 1 → workOf t width height ≡ passWork (lineOf t) (cond (steepOf t) height width) (cond (steepOf t) width height) (t .length) (t .origin)
-  unfolding workOf
-  work-erode e = rw (eq-eqb (t .operation) 1 e) refl
-
-  work-dilate : t .operation ≡ 2 → workOf t width height ≡ passWork (lineOf t) (cond (steepOf t) height width) (cond (steepOf t) width height) (t .length) (dilationBack t)
-  unfolding workOf
-  work-dilate e = rw (ne-eqb (t .operation) 1 (λ o. omega arith), eq-eqb (t .operation) 2 e) refl
-
-  work-both : (t .operation ≡ 1 → ⊥) → (t .operation ≡ 2 → ⊥)
-      → workOf t width height
-      ≡ passWork (lineOf t) (cond (steepOf t) height width) (cond (steepOf t) width height) (t .length) (t .origin)
-      + passWork (lineOf t) (cond (steepOf t) height width) (cond (steepOf t) width height) (t .length) (dilationBack t)
-  unfolding workOf
-  work-both one two = rw (ne-eqb (t .operation) 1 one, ne-eqb (t .operation) 2 two) refl
+    two : size (gridOf how width height low) + size (gridOf how width height low) ≤ n
+    two = two-pages how width height low n (omega (arith, runs .two-pages))
 
 -- ---- two passes
 
-module _ (t : Ticket) (width height : ℕ) where
-  pub passes-then : (F G : View → View) (a b : ℕ) (old mid new : List ℕ) (n m : ℕ) → PassDone t width height F a 3 old mid n → PassDone t width height G b 3 mid new m
-      → PassDone t width height (λ (page : View). G (F page)) (a + b) 6 old new (n + m)
+module _ (how : Recipe) (width height : ℕ) where
+  pub passes-then : (F G : View → View) (a b : ℕ) (old mid new : List ℕ) (n m : ℕ) → PassDone how width height F a 3 old mid n → PassDone how width height G b 3 mid new m
+      → PassDone how width height (λ (page : View). G (F page)) (a + b) 6 old new (n + m)
   passes-then F G a b old mid new n m first second =
       record {
         same-length = second .same-length ∙ first .same-length;
@@ -230,31 +196,14 @@ module _ (t : Ticket) (width height : ℕ) where
         few = omega (arith, first .few, second .few);
       }
 
-  -- the same filter and the same work under other names
-  pub passes-as : (F G : View → View) (a b k l : ℕ) (old new : List ℕ) (n : ℕ) → ((page : View) → F page ≡ G page) → a ≡ b → k ≤ l → k * (width * height) ≤ l * (width * height) → PassDone t width height F a k old new n
-      → PassDone t width height G b l old new n
-  passes-as F G a b k l old new n same work most grows done =
-      record {
-        same-length = done .same-length;
-        rest = done .rest;
-        page = λ page held. subst (λ (p : View). Held t width height p new) (same page) (done .page page held);
-        counted = done .counted ∙ work;
-        few = omega (arith, done .few);
-      }
+-- ---- the four operations
 
-  -- ---- the four operations
-
-  abbrev way : Bool → View → View
-  way low page = pass low (lineOf t) (backOf t low) (t .length) page
-
-  abbrev cost : Bool → ℕ
-  cost low = passWork (lineOf t) (downOf (steepOf t) width height) (acrossOf (steepOf t) width height) (t .length) (backOf t low)
-
-  eroded-is : (page : View) → way true page ≡ eroded t page
+module _ (how : Recipe) (width height : ℕ) where
+  eroded-is : (page : View) → passed how true page ≡ eroded (how .segment) page
   unfolding eroded backOf
   eroded-is page = refl
 
-  dilated-is : (page : View) → way false page ≡ dilated t page
+  dilated-is : (page : View) → passed how false page ≡ dilated (how .segment) page
   unfolding dilated backOf
   dilated-is page = refl
 
@@ -263,44 +212,83 @@ module _ (t : Ticket) (width height : ℕ) where
   sides-as true = (refl, refl)
   sides-as false = (refl, refl)
 
-  eroding-is : cost true ≡ passWork (lineOf t) (cond (steepOf t) height width) (cond (steepOf t) width height) (t .length) (t .origin)
-  unfolding backOf
-  eroding-is = ap₂ (λ (h w : ℕ). passWork (lineOf t) h w (t .length) (t .origin)) (sym (sides-as (steepOf t) .0)) (sym (sides-as (steepOf t) .1))
+  eroding-is : passCost how width height true ≡ erosionWork (how .segment) width height
+  unfolding backOf erosionWork
+  eroding-is =
+      ap₂ (λ (h w : ℕ). passWork (how .segment .line) h w (how .segment .length) (how .segment .origin)) (sym (sides-as (steepOf how) .0))
+      (sym (sides-as (steepOf how) .1))
 
-  dilating-is : cost false ≡ passWork (lineOf t) (cond (steepOf t) height width) (cond (steepOf t) width height) (t .length) (dilationBack t)
-  unfolding backOf
-  dilating-is = ap₂ (λ (h w : ℕ). passWork (lineOf t) h w (t .length) (dilationBack t)) (sym (sides-as (steepOf t) .0)) (sym (sides-as (steepOf t) .1))
+  dilating-is : passCost how width height false ≡ dilationWork (how .segment) width height
+  unfolding backOf dilationWork
+  dilating-is =
+      ap₂ (λ (h w : ℕ). passWork (how .segment .line) h w (how .segment .length) (dilationBack (how .segment)))
+      (sym (sides-as (steepOf how) .0))
+      (sym (sides-as (steepOf how) .1))
 
-  module _ (old new : List ℕ) (n : ℕ) where
-    pub filter-erode : t .operation ≡ 1 → PassDone t width height (way true) (cost true) 3 old new n → PassDone t width height (filtered t) (workOf t width height) 6 old new n
-    filter-erode e done = passes-as (way true) (filtered t) (cost true) (workOf t width height) 3 6 old new n (λ page. eroded-is page ∙ sym (named page)) (eroding-is ∙ sym worked) (omega arith) (omega arith) done
-      where
-        named : (page : View) → filtered t page ≡ eroded t page
-        named page = filtered-erode t page e
+  -- what an operation makes and costs, by its number
+  pub record Is (filter : View → View) (work : ℕ) : Type 0 where
+    pub filter-is : (page : View) → filter page ≡ operated (how .operation) (how .segment) page
+    pub work-is : work ≡ workOf (how .operation) (how .segment) width height
 
-        worked : workOf t width height ≡ passWork (lineOf t) (cond (steepOf t) height width) (cond (steepOf t) width height) (t .length) (t .origin)
-        worked = work-erode t width height e
+  pub erosion-is : how .operation ≡ 1 → Is (passed how true) (passCost how width height true)
+  unfolding operated workOf
+  erosion-is e =
+      record {
+        filter-is = λ page. eroded-is page ∙ sym (rw (eq-eqb (how .operation) 1 e) refl);
+        work-is = eroding-is ∙ sym (rw (eq-eqb (how .operation) 1 e) refl);
+      }
 
-    pub filter-dilate : t .operation ≡ 2 → PassDone t width height (way false) (cost false) 3 old new n → PassDone t width height (filtered t) (workOf t width height) 6 old new n
-    filter-dilate e done = passes-as (way false) (filtered t) (cost false) (workOf t width height) 3 6 old new n (λ page. dilated-is page ∙ sym (filtered-dilate t page e)) (dilating-is ∙ sym (work-dilate t width height e)) (omega arith) (omega arith) done
+  pub dilation-is : how .operation ≡ 2 → Is (passed how false) (passCost how width height false)
+  unfolding operated workOf
+  dilation-is e =
+      let not-one = ne-eqb (how .operation) 1 (λ o. omega arith) in
+      record {
+        filter-is = λ page. dilated-is page ∙ sym (rw (not-one, eq-eqb (how .operation) 2 e) refl);
+        work-is = dilating-is ∙ sym (rw (not-one, eq-eqb (how .operation) 2 e) refl);
+      }
 
-    pub filter-both : (opens : Bool) → eqb (t .operation) 3 ≡ opens → (t .operation ≡ 1 → ⊥) → (t .operation ≡ 2 → ⊥)
-        → PassDone t width height (λ (page : View). way (not opens) (way opens page)) (cost opens + cost (not opens)) 6 old new n → PassDone t width height (filtered t) (workOf t width height) 6 old new n
-    filter-both true e one two done =
-        passes-as _ (filtered t) _ (workOf t width height) 6 6 old new n
-        (λ page. dilated-is (way true page) ∙ ap (dilated t) (eroded-is page) ∙ sym (filtered-open t page one two e))
-        (ap₂ _+_ eroding-is dilating-is ∙ sym (work-both t width height one two)) (omega arith) (omega arith) done
-    filter-both false e one two done =
-        passes-as _ (filtered t) _ (workOf t width height) 6 6 old new n
-        (λ page. eroded-is (way false page) ∙ ap (eroded t) (dilated-is page) ∙ sym (filtered-close t page one two e))
-        (ap₂ _+_ dilating-is eroding-is ∙ add-comm _ _ ∙ sym (work-both t width height one two)) (omega arith) (omega arith) done
+  module _ (from : 1 ≤ how .operation) (to : how .operation ≤ 4) (one : how .operation ≡ 1 → ⊥) (two : how .operation ≡ 2 → ⊥) where
+    pub two-passes-are :
+        (opens : Bool) → eqb (how .operation) 3 ≡ opens
+        → Is (λ (page : View). passed how (not opens) (passed how opens page))
+        (passCost how width height opens + passCost how width height (not opens))
+    unfolding operated opened closed workOf
+    two-passes-are true e =
+        let off-one = ne-eqb (how .operation) 1 one in
+        let off-two = ne-eqb (how .operation) 2 two in
+        record {
+          filter-is = λ page. dilated-is (passed how true page) ∙ ap (dilated (how .segment)) (eroded-is page) ∙ sym (rw (off-one, off-two, e) refl);
+          work-is = ap₂ _+_ eroding-is dilating-is ∙ sym (rw (off-one, off-two, e) refl);
+        }
+    two-passes-are false e =
+        let off-one = ne-eqb (how .operation) 1 one in
+        let off-two = ne-eqb (how .operation) 2 two in
+        let off-three : how .operation ≡ 3 → ⊥ = eqb-false (how .operation) 3 e in
+        let four : how .operation ≡ 4 = omega arith in
+        record {
+          filter-is = λ page. eroded-is (passed how false page) ∙ ap (eroded (how .segment)) (dilated-is page) ∙ sym (rw (off-one, off-two, e, eq-eqb (how .operation) 4 four) refl);
+          work-is = ap₂ _+_ dilating-is eroding-is ∙ sym (rw (off-one, off-two, e, eq-eqb (how .operation) 4 four) refl);
+        }
 
-pub runs-as : (t : Ticket) (width height : ℕ) (profile reaches : List ℕ) (n m : ℕ) → n ≡ m → Runs t width height profile reaches m → Runs t width height profile reaches n
-runs-as t width height profile reaches n m e runs = subst (Runs t width height profile reaches) (sym e) runs
+  pub operated-as :
+      (F : View → View) (a k : ℕ) (old new : List ℕ) (n : ℕ) → k * (width * height) ≤ 6 * (width * height) → Is F a
+      → PassDone how width height F a k old new n
+      → PassDone how width height (operated (how .operation) (how .segment)) (workOf (how .operation) (how .segment) width height) 6 old new n
+  operated-as F a k old new n grows is done =
+      record {
+        same-length = done .same-length;
+        rest = done .rest;
+        page = λ page held. subst (λ (p : View). Held how width height p new) (is .filter-is page) (done .page page held);
+        counted = done .counted ∙ is .work-is;
+        few = omega (arith, done .few);
+      }
+
+pub runs-as : (how : Recipe) (width height : ℕ) (profile reaches : List ℕ) (n m : ℕ) → n ≡ m → Runs how width height profile reaches m → Runs how width height profile reaches n
+runs-as how width height profile reaches n m e runs = subst (Runs how width height profile reaches) (sym e) runs
 
 -- how many pixels a page may have
-pub pixels-most : (t : Ticket) (width height : ℕ) → BoxesLie t width height → width * height ≤ 67108864
-pixels-most t width height lie =
+pub pixels-most : (how : Recipe) (width height : ℕ) → BoxesLie how width height → width * height ≤ 67108864
+pixels-most how width height lie =
     let rows : width * height ≤ width * 8192 = mul-le-mul-left width (lie .height-most) in
     let columns : width * 8192 ≤ 8192 * 8192 = mul-le-mul-right 8192 (lie .width-most) in
     omega arith

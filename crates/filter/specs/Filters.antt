@@ -1,21 +1,20 @@
--- Document 01, 'The four filters'. A page is a function of a place M on the major axis and a place m on the minor one, with
--- nothing where a pixel is absent (Seen); a filter makes such a page of such a page, so what is absent stays absent and "hidden
--- pixels are absent in the second pass too".
+-- Document 01, 'The four filters', along a segment: a line, a length L and an origin o. A page is a function with nothing where a pixel is
+-- absent (Seen); a filter makes such a page of such a page, so what is absent stays absent and "hidden pixels are absent in the
+-- second pass too". Up to `operated` a page is by its place M on the major axis and m on the minor one, from `filtered` on by column and row.
 -- Assumes nothing.
 use Prim.Native.Nat.{ℕ, zero, suc, _+_, _-_}
 use mathlib.Core.Bool.{Bool, true, false, cond}
 use mathlib.Core.Option.{Option, none, some}
 use mathlib.Core.List.{List}
 use lib.Dec.{leb, eqb}
+use lib.ListN.{take}
 use Rattle.geometry.specs.Line.{landing, stepOf, majorAt}
 use Rattle.geometry.specs.declared.Line.{Line}
 use Rattle.runs.specs.Span.{chosen}
-use Rattle.ticket.specs.declared.Ticket.{Ticket}
-use Rattle.filter.specs.Seen.{boxesOf, lineOf, seen, turned, runsSteep}
-use Rattle.tray.specs.declared.Placement.{Placement}
-
-abbrev pub View : Type 0
-View = ℕ → ℕ → Option ℕ
+use Rattle.ticket.specs.declared.HiddenBox.{HiddenBox}
+use Rattle.filter.specs.Seen.{View, seen, turned, runsSteep}
+use Rattle.filter.specs.declared.Recipe.{Recipe}
+use Rattle.filter.specs.declared.Segment.{Segment}
 
 -- an absent pixel does not count
 unfoldable pub joined : Bool → Option ℕ → Option ℕ → Option ℕ
@@ -49,42 +48,60 @@ passAt low l a n page M m (some v) = extreme low (inWindow l page a M m) 0 n
 unfoldable pub pass : Bool → Line → ℕ → ℕ → View → View
 pass low l a n page M m = passAt low l a n page M m (page M m)
 
-abbrev pub white : ℕ
-white = 255
-
--- "A hidden pixel comes out as 255 in every finished page."
-unfoldable pub orWhite : Option ℕ → ℕ
-orWhite none = white
-orWhite (some v) = v
-
 -- "Erosion at step x is the minimum over steps x-o to x-o+L-1."
-unfoldable pub eroded : Ticket → View → View
-eroded t page = pass true (lineOf t) (t .origin) (t .length) page
+unfoldable pub eroded : Segment → View → View
+eroded s page = pass true (s .line) (s .origin) (s .length) page
 
 -- how far the window of a dilation begins before its pixel
-unfoldable pub dilationBack : Ticket → ℕ
-dilationBack t = t .length - 1 - t .origin
+unfoldable pub dilationBack : Segment → ℕ
+dilationBack s = s .length - 1 - s .origin
 
 -- "Dilation is the maximum over steps x-(L-1-o) to x+o."
-unfoldable pub dilated : Ticket → View → View
-dilated t page = pass false (lineOf t) (dilationBack t) (t .length) page
+unfoldable pub dilated : Segment → View → View
+dilated s page = pass false (s .line) (dilationBack s) (s .length) page
 
 -- "Opening erodes, then dilates the eroded page"
-unfoldable pub opened : Ticket → View → View
-opened t page = dilated t (eroded t page)
+unfoldable pub opened : Segment → View → View
+opened s page = dilated s (eroded s page)
 
 -- "closing does the reverse"
-unfoldable pub closed : Ticket → View → View
-closed t page = eroded t (dilated t page)
+unfoldable pub closed : Segment → View → View
+closed s page = eroded s (dilated s page)
 
 -- "operation: 1 erode, 2 dilate, 3 open, 4 close"
-unfoldable pub filtered : Ticket → View → View
-filtered t page =
-    cond (eqb (t .operation) 1) (eroded t page)
-    (cond (eqb (t .operation) 2) (dilated t page) (cond (eqb (t .operation) 3) (opened t page) (closed t page)))
+abbrev pub erosion : ℕ
+erosion = 1
 
--- the finished page, by column and row
-unfoldable pub finished : Ticket → Placement → List ℕ → ℕ → ℕ → ℕ
-finished t p tray c r =
-    let steep : Bool = runsSteep (lineOf t) in
-    orWhite (turned steep (filtered t (turned steep (seen (boxesOf t) p tray))) c r)
+abbrev pub dilation : ℕ
+dilation = 2
+
+abbrev pub opening : ℕ
+opening = 3
+
+abbrev pub closing : ℕ
+closing = 4
+
+-- every operation by its name; any other number finds nothing, and no ticket that is read has one
+unfoldable pub operated : ℕ → Segment → View → View
+operated n s page =
+    cond (eqb n erosion) (eroded s page)
+    (cond (eqb n dilation) (dilated s page)
+    (cond (eqb n opening) (opened s page) (cond (eqb n closing) (closed s page) (λ (M m : ℕ). none))))
+
+-- the same, by column and row
+unfoldable pub filtered : ℕ → Segment → View → View
+filtered n s page = turned (runsSteep (s .line)) (operated n s (turned (runsSteep (s .line)) page))
+
+-- an absent pixel comes out as white
+unfoldable pub orWhite : ℕ → Option ℕ → ℕ
+orWhite white none = white
+orWhite white (some v) = v
+
+-- the boxes of a recipe, of its 64 places
+unfoldable pub recipeBoxes : Recipe → List HiddenBox
+recipeBoxes how = take (how .count) (how .boxes)
+
+-- the page that a recipe makes of the pixels of a page with these sides
+unfoldable pub filteredPage : Recipe → ℕ → ℕ → (ℕ → ℕ → ℕ) → ℕ → ℕ → ℕ
+filteredPage how width height pixel c r =
+    orWhite (how .white) (filtered (how .operation) (how .segment) (seen (recipeBoxes how) width height pixel) c r)

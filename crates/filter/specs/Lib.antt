@@ -1,6 +1,5 @@
 pub mod Seen
 pub mod Filters
 pub mod Work
-pub mod Job
 pub mod Engine
-pub mod Cases
+pub mod Promises

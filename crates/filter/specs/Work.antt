@@ -9,9 +9,9 @@ use Rattle.geometry.specs.Number.{behind, ahead}
 use Rattle.geometry.specs.declared.Line.{Line}
 use Rattle.runs.specs.Block.{rightward, leftward, resulting}
 use Rattle.runs.specs.Scratch.{total}
-use Rattle.ticket.specs.declared.Ticket.{Ticket}
-use Rattle.filter.specs.Seen.{lineOf, runsSteep}
-use Rattle.filter.specs.Filters.{dilationBack}
+use Rattle.filter.specs.Seen.{runsSteep}
+use Rattle.filter.specs.Filters.{erosion, dilation, opening, closing, dilationBack}
+use Rattle.filter.specs.declared.Segment.{Segment}
 
 -- a step of a rightward running extreme, of a leftward one, and a result (sweep, Block)
 unfoldable pub charged : ℕ → ℕ → ℕ → ℕ → ℕ
@@ -25,12 +25,18 @@ chargedAt l H W L a M m = charged L a (behind l H W M m) (suc (behind l H W M m 
 unfoldable pub passWork : Line → ℕ → ℕ → ℕ → ℕ → ℕ
 passWork l H W L a = total (λ (M : ℕ). total (λ (m : ℕ). chargedAt l H W L a M m) 0 W) 0 H
 
+-- of a page w by h: in an erosion, in a dilation
+unfoldable pub erosionWork : Segment → ℕ → ℕ → ℕ
+erosionWork s w h = passWork (s .line) (cond (runsSteep (s .line)) h w) (cond (runsSteep (s .line)) w h) (s .length) (s .origin)
+
+unfoldable pub dilationWork : Segment → ℕ → ℕ → ℕ
+dilationWork s w h =
+    passWork (s .line) (cond (runsSteep (s .line)) h w) (cond (runsSteep (s .line)) w h) (s .length) (dilationBack s)
+
 -- "Opening and closing add their two passes."
-unfoldable pub workOf : Ticket → ℕ → ℕ → ℕ
-workOf t w h =
-    let l : Line = lineOf t in
-    let H : ℕ = cond (runsSteep l) h w in
-    let W : ℕ = cond (runsSteep l) w h in
-    let eroding : ℕ = passWork l H W (t .length) (t .origin) in
-    let dilating : ℕ = passWork l H W (t .length) (dilationBack t) in
-    cond (eqb (t .operation) 1) eroding (cond (eqb (t .operation) 2) dilating (eroding + dilating))
+unfoldable pub workOf : ℕ → Segment → ℕ → ℕ → ℕ
+workOf n s w h =
+    cond (eqb n erosion) (erosionWork s w h)
+    (cond (eqb n dilation) (dilationWork s w h)
+    (cond (eqb n opening) (erosionWork s w h + dilationWork s w h)
+    (cond (eqb n closing) (dilationWork s w h + erosionWork s w h) 0)))

@@ -4,11 +4,11 @@ ghost use mathlib.Core.Bool.{true};
 ghost use Prim.Native.Nat.{_*_, _≤_};
 ghost use lib.ListN.{length, take};
 ghost use Rattle.tray.specs.Turned.{boxed};
-ghost use Rattle.filter.specs.Job.{boxAllowed};
-ghost use Rattle.filter.specs.Seen.{boxesOf};
+ghost use Rattle.boxes.specs.Boxes.{boxAllowed};
+ghost use Rattle.filter.specs.Filters.{recipeBoxes};
 ghost use Rattle.filter.specs.Engine.{BoxesLie, Painted};
+use super::Recipe;
 use ticket::HiddenBox;
-use ticket::Ticket;
 use tray::boxes::Rectangle;
 
 // A box as some rows and columns of the page.
@@ -26,7 +26,7 @@ fn rectangle_of(b: HiddenBox, width: usize, height: usize) -> Rectangle
 
 // Every pixel that a box hides takes the value.
 pub fn hide(
-    t: Ticket,
+    how: Recipe,
     steep: bool,
     falls: bool,
     width: usize,
@@ -34,11 +34,11 @@ pub fn hide(
     page: &mut [u8],
     value: u8,
 )
-    requires { ⌜ BoxesLie t width height × (width * height ≤ length (now page)) ⌝ }
-    ensures { λ _. ⌜ Painted (boxesOf t) steep falls width height value (now (page .entry)) (now (page .exit)) ⌝ }
+    requires { ⌜ BoxesLie how width height × (width * height ≤ length (now page)) ⌝ }
+    ensures { λ _. ⌜ Painted (recipeBoxes how) steep falls width height value (now (page .entry)) (now (page .exit)) ⌝ }
 {
-    let boxes = t.boxes;
-    let count = t.count;
+    let boxes = how.boxes;
+    let count = how.count;
     let mut k: usize = 0;
     while k < count {
         let b = boxes[k];

@@ -1,26 +1,31 @@
-// The job: a page of one tray filtered along lines into another.
-// The definitions stand in specs/: Seen (the page as the filter sees it), Filters (windows, erosion, dilation, opening, closing),
-// Work (comparisons), Job (answer, output tray and scratch of a job), Cases (the worked cases). An answer has its own crate.
+// The filters: a page that stands in one lent buffer, filtered along lines into a page that stands in another.
+// The definitions stand in specs/: Seen (a page with absent pixels), Filters (windows, erosion, dilation, opening, closing), Work
+// (comparisons), Laws (what others may use of them), Promises (what the functions here ask and promise). They speak of a page as a
+// function of column and row; nobody above knows how the scratch is used.
 //
-//     job      the job, with no condition on its callers: run
-//     judge    refusals 10 to 14
-//     filters  the four filters, of one pass or two, over the page in the scratch
+//     page     a placed page filtered into a placed page: filter
+//     passes   the four filters, of one pass or two, over the page in the scratch
 //     hide     boxes painted over the page in the scratch
-mod filters;
 mod hide;
-pub mod job;
-mod judge;
+pub mod page;
+mod passes;
 
-// Where a page stands in its tray: the byte of its corner, and how far apart its rows start.
-pub struct Spot {
-    pub offset: usize,
-    pub stride: usize,
+use geometry::Line;
+use ticket::HiddenBox;
+
+// What a window is laid along: the line, how many steps a window has, and how many of them lie before the pixel in an erosion.
+pub struct Segment {
+    pub line: Line,
+    pub length: usize,
+    pub origin: usize,
 }
 
-// Where the two pages of a job stand. They share their sides; each has its own offset and stride.
-pub struct Placements {
-    pub width: usize,
-    pub height: usize,
-    pub source: Spot,
-    pub output: Spot,
+// What is done to a page: 1 erode, 2 dilate, 3 open, 4 close along a segment, with the pixels under the first count boxes absent,
+// and white in their place on the page that comes out.
+pub struct Recipe {
+    pub operation: usize,
+    pub segment: Segment,
+    pub white: u8,
+    pub count: usize,
+    pub boxes: [HiddenBox; 64],
 }

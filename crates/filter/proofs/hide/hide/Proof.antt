@@ -7,10 +7,9 @@ use lib.ListN.{take}
 use Rattle.ticket.specs.Reading.{noBox}
 use Rattle.tray.specs.Promises.{OnPage}
 use Rattle.tray.specs.declared.boxes.Rectangle.{Rectangle}
-use Rattle.filter.specs.Seen.{boxesOf}
+use Rattle.filter.specs.Filters.{recipeBoxes}
 use Rattle.filter.specs.Engine.{Painted}
-use Rattle.filter.proofs.Hiding.{on-page, painted-none, painted-more}
-use Rattle.filter.proofs.Judging.{own-default}
+use Rattle.filter.proofs.Hiding.{on-page, painted-none, painted-more, own-default}
 use Rattle.filter.proofs.hide.hide.Statement.{statement}
 use Rattle.filter.proofs.hide.hide.Tie as tie
 
@@ -54,19 +53,19 @@ loop-again c =
     let lie = start .pre .0 in
     let l = c .before .before .before .before .before .before .before .loop in (
       omega arith,
-      painted-more (a .t .boxes) (l .k) _ (omega (arith, lie .places, lie .count-most)) (own-default (a .t .boxes) (l .k) noBox) _ _ _ _ _ _ _ _ _ (c .before .before .before .before .rectangle-of .ensures) (l .inv .1) (c .before .before .paint-box .ensures),
+      painted-more (a .how .boxes) (l .k) _ (omega (arith, lie .places, lie .count-most)) (own-default (a .how .boxes) (l .k) noBox) _ _ _ _ _ _ _ _ _ (c .before .before .before .before .rectangle-of .ensures) (l .inv .1) (c .before .before .paint-box .ensures),
     )
 
 same-length : tie.Need-same-length Inv-loop μ-loop
 same-length c = c .before .loop .inv .1 .same-length
 
 returns : tie.Need-returns Inv-loop μ-loop
-unfolding boxesOf
+unfolding recipeBoxes
 returns c =
     let a = c .before .before .before .before .args in
     let l = c .before .loop in
-    let e : l .k ≡ a .t .count = omega arith in
-    subst (λ (n : ℕ). Painted (take n (a .t .boxes)) (a .steep) (a .falls) (a .width) (a .height) (a .value) (a .page .now) (l .page)) e (l .inv .1)
+    let e : l .k ≡ a .how .count = omega arith in
+    subst (λ (n : ℕ). Painted (take n (a .how .boxes)) (a .steep) (a .falls) (a .width) (a .height) (a .value) (a .page .now) (l .page)) e (l .inv .1)
 
 pub hide-spec : {M : Type 1} → statement M
 hide-spec =
