@@ -1,6 +1,5 @@
 pub mod Fields
 pub mod Judging
 pub mod Reading
-pub mod Chaining
 pub mod Laws
 pub mod Worked
