@@ -115,5 +115,6 @@ pub fn field_end(s: &[u8], head: usize) -> usize
     ensures ends { λ r. ⌜ r ≡ fieldEnd (now (s .entry)) head ⌝ }
     ensures near { λ r. ⌜ r ≤ head + 65538 ⌝ }
 {
-    head + HEAD_BYTES + number_at(s, head + 1) as usize
+    let value = number_at(s, head + 1) as usize;
+    head + HEAD_BYTES + value
 }

@@ -22,7 +22,7 @@ returns : tie.Need-returns Inv-loop μ-loop
 returns c =
     let l = c .before .before .loop in
     let s = now (c .before .before .before .before .before .args .s) in
-    let over = over-at-end s (l .head) (l .count) (l .places) (l .inv) (c .if1 .taken) in (
+    let over = over-at-end s (l .head) (l .count) (l .places) (l .inv) (omega arith) in (
       walk-counted s (l .head) (l .count) (l .places) (l .inv) over,
       walk-placed s (l .head) (l .count) (l .places) (l .inv) over,
     )
