@@ -1,11 +1,12 @@
 -- Document 01, 'The ticket': "Fields of a one-byte tag, a two-byte length and the value; numbers big-endian. Tags 1 to 6 stand
 -- once each in this order, then 0 to 64 fields of tag 7."
--- The first six fields have fixed lengths, so every head has a fixed place. A byte past the end reads as 0; no verdict
--- (Judging) depends on one.
+-- The first six fields have fixed lengths, so their heads have fixed places; the boxes are found by a walk from head to head,
+-- each behind the field before it, whatever that field's length. A byte past the end reads as 0; no answer (Judging) depends on
+-- one.
 -- Assumes nothing.
-use Prim.Native.Nat.{ℕ, _+_, _-_, _*_, _/_}
+use Prim.Native.Nat.{ℕ, zero, suc, _+_, _-_, _*_}
 use mathlib.Core.Bool.{cond}
-use mathlib.Core.List.{List}
+use mathlib.Core.List.{List, [], _∷_}
 use lib.ListN.{length, getD}
 use lib.Dec.{ltb}
 use lib.IntN.{ℤ, pos, negsuc}
@@ -78,22 +79,28 @@ originIn s = numberAt s (originHead + headBytes)
 unfoldable pub phaseIn : List ℕ → ℕ
 phaseIn s = numberAt s (phaseHead + headBytes)
 
+-- behind a field's head and its value, whose length the head tells, the next head is due
+unfoldable pub fieldEnd : List ℕ → ℕ → ℕ
+fieldEnd s head = head + headBytes + numberAt s (head + 1)
+
 -- | 7 | 8 | hidden box: left, top, width, height |
-abbrev pub boxBytes : ℕ
-boxBytes = 11
-
-unfoldable pub boxHead : ℕ → ℕ
-boxHead k = firstBox + boxBytes * k
-
-unfoldable pub boxIn : List ℕ → ℕ → HiddenBox
-boxIn s k =
+unfoldable pub boxAt : List ℕ → ℕ → HiddenBox
+boxAt s head =
     record {
-      left = numberAt s (boxHead k + headBytes);
-      top = numberAt s (boxHead k + headBytes + 2);
-      width = numberAt s (boxHead k + headBytes + 4);
-      height = numberAt s (boxHead k + headBytes + 6);
+      left = numberAt s (head + headBytes);
+      top = numberAt s (head + headBytes + 2);
+      width = numberAt s (head + headBytes + 4);
+      height = numberAt s (head + headBytes + 6);
     }
 
--- how many boxes a ticket that ends behind a box has
-unfoldable pub boxesIn : List ℕ → ℕ
-boxesIn s = (length s - firstBox) / boxBytes
+-- "then 0 to 64 fields of tag 7"
+abbrev pub mostBoxes : ℕ
+mostBoxes = 64
+
+-- the boxes from a head on, head by head, until the ticket ends; at most n
+unfoldable pub boxesFrom : List ℕ → ℕ → ℕ → List HiddenBox
+boxesFrom s head zero = []
+boxesFrom s head (suc n) = cond (ltb head (length s)) (boxAt s head ∷ boxesFrom s (fieldEnd s head) n) []
+
+unfoldable pub boxesIn : List ℕ → List HiddenBox
+boxesIn s = boxesFrom s firstBox mostBoxes

@@ -1,7 +1,7 @@
 -- Document 01, 'Refusals and what they return': "Fields are judged one by one: head complete (1), tag (2), 65th box (5),
 -- length (3), value complete (1), value (4, 6, 7, 8, 9)."
 -- The place of every refusal of a ticket is the head of the field at fault: "The place of a head is its byte index; where bytes
--- end before a head, it is the index where the head would start."
+-- end before a head, it is the index where the head would start." A judgement that finds nothing to refuse is done, with no work.
 -- Assumes nothing.
 use Prim.Native.Nat.{ℕ, zero, suc, _+_, _%_, max}
 use mathlib.Core.Bool.{Bool, true, false, not, _&&_, _||_, cond}
@@ -10,49 +10,22 @@ use lib.ListN.{length}
 use lib.Dec.{ltb, leb, eqb}
 use lib.IntN.{ℤ, natAbs}
 use Rattle.geometry.specs.Vector.{shallow, steep}
-use Rattle.ticket.specs.Fields.{headBytes, byteAt, numberAt, operationHead, lineHead, vectorHead, lengthHead, originHead, phaseHead, boxHead, operationIn, lineIn, dxIn, dyIn, lengthIn, originIn, phaseIn}
-use Rattle.ticket.specs.declared.Fault.{Fault}
-use Rattle.ticket.specs.declared.Fault.the-variants.{Ends, WrongTag, WrongLength, Unknown, TooManyBoxes, BadVector, BadLength, BadOrigin, BadPhase}
-use Rattle.ticket.specs.declared.Verdict.{Verdict}
-use Rattle.ticket.specs.declared.Verdict.the-variants.{Good, Refused}
-
--- the number that document 01 gives each fault
-abbrev pub numberOf : Fault → ℕ
-numberOf Ends = 1
-numberOf WrongTag = 2
-numberOf WrongLength = 3
-numberOf Unknown = 4
-numberOf TooManyBoxes = 5
-numberOf BadVector = 6
-numberOf BadLength = 7
-numberOf BadOrigin = 8
-numberOf BadPhase = 9
-
--- the two ways to chain judgements: a fault unless a test holds; and the first fault of two judgements
-unfoldable pub unless : Bool → Fault → ℕ → Verdict
-unless true fault at = Good
-unless false fault at = Refused fault at
-
-infixr 20 _then_
-unfoldable pub _then_ : Verdict → Verdict → Verdict
-Good then v = v
-Refused fault at then v = Refused fault at
-
--- nothing is refused
-unfoldable pub isGood : Verdict → Bool
-isGood Good = true
-isGood (Refused fault at) = false
+use Rattle.refusal.specs.Chain.{unless, _then_}
+use Rattle.refusal.specs.declared.Answer.{Answer}
+use Rattle.refusal.specs.declared.Answer.the-variants.{Done}
+use Rattle.refusal.specs.declared.Refusal.the-variants.{TicketEnds, WrongTag, WrongLength, Unknown, TooManyBoxes, BadVector, BadLength, BadOrigin, BadPhase}
+use Rattle.ticket.specs.Fields.{headBytes, byteAt, numberAt, operationHead, lineHead, vectorHead, lengthHead, originHead, phaseHead, firstBox, fieldEnd, mostBoxes, operationIn, lineIn, dxIn, dyIn, lengthIn, originIn, phaseIn}
 
 -- | 1 | ticket ends in a field, or before one of tags 1 to 6 |, | 2 | a tag other than the one due |
-unfoldable pub judgeHead : List ℕ → ℕ → ℕ → Verdict
-judgeHead s at tag = unless (leb (at + headBytes) (length s)) Ends at then unless (eqb (byteAt s at) tag) WrongTag at
+unfoldable pub judgeHead : List ℕ → ℕ → ℕ → Answer
+judgeHead s at tag = unless (leb (at + headBytes) (length s)) TicketEnds at then unless (eqb (byteAt s at) tag) WrongTag at
 
 -- | 3 | wrong field length |, | 1 | ticket ends in a field |
-unfoldable pub judgeSize : List ℕ → ℕ → ℕ → Verdict
+unfoldable pub judgeSize : List ℕ → ℕ → ℕ → Answer
 judgeSize s at size =
-    unless (eqb (numberAt s (at + 1)) size) WrongLength at then unless (leb (at + headBytes + size) (length s)) Ends at
+    unless (eqb (numberAt s (at + 1)) size) WrongLength at then unless (leb (at + headBytes + size) (length s)) TicketEnds at
 
-unfoldable pub judgeField : List ℕ → ℕ → ℕ → ℕ → Verdict
+unfoldable pub judgeField : List ℕ → ℕ → ℕ → ℕ → Answer
 judgeField s at tag size = judgeHead s at tag then judgeSize s at size
 
 -- | 4 | unknown operation or line |
@@ -94,42 +67,39 @@ unfoldable pub phaseAllowed : Bool → ℤ → ℤ → ℕ → Bool
 phaseAllowed periodic dx dy i = cond periodic (eqb i 0) (ltb i (max (natAbs dx) (natAbs dy)))
 
 -- the six fields that stand once
-unfoldable pub judgeOperation : List ℕ → Verdict
+unfoldable pub judgeOperation : List ℕ → Answer
 judgeOperation s = judgeField s operationHead 1 1 then unless (operationKnown (operationIn s)) Unknown operationHead
 
-unfoldable pub judgeLine : List ℕ → Verdict
+unfoldable pub judgeLine : List ℕ → Answer
 judgeLine s = judgeField s lineHead 2 1 then unless (lineKnown (lineIn s)) Unknown lineHead
 
-unfoldable pub judgeVector : List ℕ → Verdict
+unfoldable pub judgeVector : List ℕ → Answer
 judgeVector s =
     judgeField s vectorHead 3 4 then unless (vectorAllowed (isPeriodic (lineIn s)) (dxIn s) (dyIn s)) BadVector vectorHead
 
-unfoldable pub judgeLength : List ℕ → Verdict
+unfoldable pub judgeLength : List ℕ → Answer
 judgeLength s = judgeField s lengthHead 4 2 then unless (lengthAllowed (lengthIn s)) BadLength lengthHead
 
-unfoldable pub judgeOrigin : List ℕ → Verdict
+unfoldable pub judgeOrigin : List ℕ → Answer
 judgeOrigin s = judgeField s originHead 5 2 then unless (originAllowed (lengthIn s) (originIn s)) BadOrigin originHead
 
-unfoldable pub judgePhase : List ℕ → Verdict
+unfoldable pub judgePhase : List ℕ → Answer
 judgePhase s =
     judgeField s phaseHead 6 2 then unless (phaseAllowed (isPeriodic (lineIn s)) (dxIn s) (dyIn s) (phaseIn s)) BadPhase phaseHead
 
--- "0 to 64 fields of tag 7"
-abbrev pub mostBoxes : ℕ
-mostBoxes = 64
-
 -- | 5 | a 65th box |, judged behind the tag and before the length; a box's numbers are judged with the page
-unfoldable pub judgeBox : List ℕ → ℕ → Verdict
-judgeBox s k =
-    judgeHead s (boxHead k) 7 then unless (ltb k mostBoxes) TooManyBoxes (boxHead k) then judgeSize s (boxHead k) 8
+unfoldable pub judgeBox : List ℕ → ℕ → ℕ → Answer
+judgeBox s head k =
+    judgeHead s head 7 then unless (ltb k mostBoxes) TooManyBoxes head then judgeSize s head 8
 
--- the boxes from the k-th on, until the ticket ends before a head; n is how many more may be judged
-unfoldable pub judgeBoxes : List ℕ → ℕ → ℕ → Verdict
-judgeBoxes s k zero = Good
-judgeBoxes s k (suc n) = cond (eqb (length s) (boxHead k)) Good (judgeBox s k then judgeBoxes s (suc k) n)
+-- the boxes from the k-th on, whose head is due at `head`, until the ticket ends before a head; n is how many more may be judged
+unfoldable pub judgeBoxes : List ℕ → ℕ → ℕ → ℕ → Answer
+judgeBoxes s head k zero = Done 0
+judgeBoxes s head k (suc n) =
+    cond (eqb (length s) head) (Done 0) (judgeBox s head k then judgeBoxes s (fieldEnd s head) (suc k) n)
 
 -- the whole ticket: the 65th box is refused by its judgement, so 65 may be judged
-unfoldable pub judged : List ℕ → Verdict
+unfoldable pub judged : List ℕ → Answer
 judged s =
     judgeOperation s
     then judgeLine s
@@ -137,4 +107,4 @@ judged s =
     then judgeLength s
     then judgeOrigin s
     then judgePhase s
-    then judgeBoxes s 0 65
+    then judgeBoxes s firstBox 0 65

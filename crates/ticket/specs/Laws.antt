@@ -1,56 +1,28 @@
--- What a caller may rely on when a ticket was read, in plain facts about numbers: nobody above unfolds the judging.
--- Document 01, 'The ticket': the limits of each field. Assumes nothing.
-use mathlib.Core.Path.{_≡_, refl, ap}
-use Prim.Native.Nat.{ℕ, zero, suc, _+_, _<_, _≤_, max}
+-- The laws of a ticket that was read, as callers cite them, with their proofs: its fields are allowed (Allowed), and what the
+-- reader shows at each answer. Assumes nothing.
+pub use Rattle.ticket.specs.Allowed.{TwoBytes, Allowed, Bytes}
+use mathlib.Core.Path.{_≡_, refl, ap, _∙_}
+use Prim.Native.Nat.{ℕ, zero, suc, _+_, _-_, _<_, _≤_, max}
 use native.Mathlib.Omega.{arith}
 use borrow.Author.Tests.{ltb-true, leb-true, eqb-true}
 use mathlib.Core.Bool.{Bool, true, false, _&&_, _||_, cond}
-use mathlib.Core.List.{List}
-use lib.ListN.{length, getD}
-use lib.Dec.{ltb, leb, eqb}
+use mathlib.Core.List.{List, [], _∷_, _++_}
+use lib.ListN.{length, getD, take, replicate, length-append, length-replicate}
+use lib.Seq.{take-append-seam}
+use lib.Dec.{ltb, leb}
 use lib.IntN.{ℤ, natAbs}
 use Rattle.geometry.specs.Vector.{shallow, steep}
-use Rattle.ticket.specs.Fields.{byteAt, numberAt, boxHead, boxIn, boxesIn, operationIn, lineIn, dxIn, dyIn, lengthIn, originIn, phaseIn}
-use Rattle.ticket.specs.Judging.{unless, _then_, isGood, operationKnown, lineKnown, isPeriodic, coprime, vectorAllowed, lengthAllowed, originAllowed, phaseAllowed, judgeHead, judgeSize, judgeField, judgeOperation, judgeLine, judgeVector, judgeLength, judgeOrigin, judgePhase, judgeBox, judgeBoxes, judged}
-use Rattle.ticket.specs.Reading.{noBox, blank, boxPlace, boxPlaces, shown, shownUnder, reading}
-use Rattle.ticket.specs.Chaining.{is-good, then-good, unless-good}
-use Rattle.ticket.specs.declared.Fault.{Fault}
-use Rattle.ticket.specs.declared.Fault.the-variants.{Unknown, TooManyBoxes, BadVector, BadLength, BadOrigin, BadPhase}
+use Rattle.refusal.specs.Answer.{isDone, whenDone}
+use Rattle.refusal.specs.Chain.{unless, _then_, then-done, unless-done, when-done, when-refused}
+use Rattle.refusal.specs.declared.Answer.{Answer}
+use Rattle.refusal.specs.declared.Refusal.{Refusal}
+use Rattle.refusal.specs.declared.Refusal.the-variants.{Unknown, BadVector, BadLength, BadOrigin, BadPhase}
+use Rattle.ticket.specs.Fields.{byteAt, numberAt, firstBox, fieldEnd, boxAt, boxesFrom, boxesIn, operationIn, lineIn, dxIn, dyIn, lengthIn, originIn, phaseIn}
+use Rattle.ticket.specs.Judging.{operationKnown, lineKnown, isPeriodic, coprime, vectorAllowed, lengthAllowed, originAllowed, phaseAllowed, judgeField, judgeOperation, judgeLine, judgeVector, judgeLength, judgeOrigin, judgePhase, judgeBoxes, judged}
+use Rattle.ticket.specs.Reading.{noBox, blank, boxPlaces, shown, reading}
 use Rattle.ticket.specs.declared.HiddenBox.{HiddenBox}
 use Rattle.ticket.specs.declared.Reading.{Reading}
 use Rattle.ticket.specs.declared.Ticket.{Ticket}
-use Rattle.ticket.specs.declared.Verdict.{Verdict}
-use Rattle.ticket.specs.declared.Verdict.the-variants.{Good, Refused}
-
--- a box's numbers have two bytes each
-pub record TwoBytes (b : HiddenBox) : Type 0 where
-  pub left : b .left < 65536
-  pub top : b .top < 65536
-  pub width : b .width < 65536
-  pub height : b .height < 65536
-
--- the fields of a ticket that was read
-pub record Allowed (t : Ticket) : Type 0 where
-  pub operation-from : 1 ≤ t .operation
-  pub operation-to : t .operation ≤ 4
-  pub line-from : 1 ≤ t .line
-  pub line-to : t .line ≤ 2
-  pub runs : (shallow (t .dx) (t .dy) || steep (t .dx) (t .dy)) ≡ true
-  pub dx-to : natAbs (t .dx) ≤ 255
-  pub dy-to : natAbs (t .dy) ≤ 255
-  pub connected-coprime : t .line ≡ 1 → coprime (t .dx) (t .dy) ≡ true
-  pub length-from : 1 ≤ t .length
-  pub length-to : t .length ≤ 8192
-  pub origin-below : t .origin < t .length
-  pub connected-phase : t .line ≡ 1 → t .phase < max (natAbs (t .dx)) (natAbs (t .dy))
-  pub periodic-phase : t .line ≡ 2 → t .phase ≡ 0
-  pub count-to : t .count ≤ 64
-  pub places : length (t .boxes) ≡ 64
-  pub box-numbers : (k : ℕ) → TwoBytes (getD (t .boxes) k noBox)
-
--- the ticket is bytes, as every slice of u8 is: a proof has it as `λ k. c .shared-slice-known .given k .fits`
-abbrev pub Bytes : List ℕ → Type 0
-Bytes s = (k : ℕ) → getD s k 0 < 256
 
 both : (a b : Bool) → (a && b) ≡ true → (a ≡ true) × (b ≡ true)
 both true b h = (refl, h)
@@ -62,90 +34,102 @@ between lo n hi h =
     (leb-true lo n (p .0), leb-true n hi (p .1))
 
 -- a field that is good has a value that is allowed
-value : (field : Verdict) (test : Bool) (fault : Fault) (at : ℕ) → (field then unless test fault at) ≡ Good → test ≡ true
-value field test fault at h = unless-good test fault at (then-good field (unless test fault at) h .1)
+value : (field : Answer) (test : Bool) (refusal : Refusal) (at : ℕ) → isDone (field then unless test refusal at) ≡ true → test ≡ true
+value field test refusal at h = unless-done test refusal at (then-done field (unless test refusal at) h .1)
 
 number-small : (s : List ℕ) (at : ℕ) → Bytes s → numberAt s at < 65536
 unfolding numberAt byteAt
 number-small s at bytes = omega (arith, bytes at, bytes (at + 1))
 
-picked-small : (s : List ℕ) (k : ℕ) (there : Bool) → Bytes s → TwoBytes (cond there (boxIn s k) noBox)
-unfolding boxIn
-picked-small s k true bytes =
-    let at = boxHead k + 3 in
+-- the numbers of a box, of no box, and of every box place
+box-small : (s : List ℕ) (head : ℕ) → Bytes s → TwoBytes (boxAt s head)
+unfolding boxAt
+box-small s head bytes =
+    let at = head + 3 in
     record {
       left = number-small s at bytes;
       top = number-small s (at + 2) bytes;
       width = number-small s (at + 4) bytes;
       height = number-small s (at + 6) bytes;
     }
-picked-small s k false bytes = record { left = omega arith; top = omega arith; width = omega arith; height = omega arith }
 
-places-small : (s : List ℕ) (k n j : ℕ) → Bytes s → TwoBytes (getD (boxPlaces s k n) j noBox)
-unfolding boxPlace boxPlaces
-places-small s k zero j bytes = picked-small s k false bytes
-places-small s k (suc n) zero bytes = picked-small s k (ltb k (boxesIn s)) bytes
-places-small s k (suc n) (suc j) bytes = places-small s (suc k) n j bytes
+zero-small : TwoBytes noBox
+zero-small = record { left = omega arith; top = omega arith; width = omega arith; height = omega arith }
 
-places-length : (s : List ℕ) (k n : ℕ) → length (boxPlaces s k n) ≡ n
-unfolding boxPlaces
-places-length s k zero = refl
-places-length s k (suc n) = ap suc (places-length s (suc k) n)
+none-small : (n j : ℕ) → TwoBytes (getD (replicate n noBox) j noBox)
+none-small zero j = zero-small
+none-small (suc n) zero = zero-small
+none-small (suc n) (suc j) = none-small n j
 
--- a box that is good is none past the 64th
-in-reach : (s : List ℕ) (k : ℕ) → judgeBox s k ≡ Good → k < 64
-unfolding judgeBox
-in-reach s k good =
-    let counts = unless (ltb k 64) TooManyBoxes (boxHead k) in
-    let size = judgeSize s (boxHead k) 8 in
-    let h = then-good (judgeHead s (boxHead k) 7) (counts then size) good .1 in
-    ltb-true k 64 (unless-good (ltb k 64) TooManyBoxes (boxHead k) (then-good counts size h .0))
+-- one box more, where the ticket has not ended, or none
+one-small : (s : List ℕ) (head m j : ℕ) (boxes : List HiddenBox) (there : Bool) → Bytes s
+    → ((i : ℕ) → TwoBytes (getD (boxes ++ replicate m noBox) i noBox))
+    → TwoBytes (getD (cond there (boxAt s head ∷ boxes) [] ++ replicate m noBox) j noBox)
+one-small s head m zero boxes true bytes more = box-small s head bytes
+one-small s head m (suc j) boxes true bytes more = more j
+one-small s head m j boxes false bytes more = none-small m j
 
--- so a ticket whose boxes are good ends behind the 64th or before
-box-ends : (s : List ℕ) (k n : ℕ) (over : Bool) → eqb (length s) (boxHead k) ≡ over
-    → k ≤ 64
-    → (k < 64 → judgeBoxes s (suc k) n ≡ Good → length s ≤ 734)
-    → cond over Good (judgeBox s k then judgeBoxes s (suc k) n) ≡ Good
-    → length s ≤ 734
-unfolding boxHead
-box-ends s k n true e h more good = omega (arith, eqb-true (length s) (boxHead k) e)
-box-ends s k n false e h more good =
-    let g = then-good (judgeBox s k) (judgeBoxes s (suc k) n) good in
-    more (in-reach s k (g .0)) (g .1)
+boxes-small : (s : List ℕ) (head n m j : ℕ) → Bytes s → TwoBytes (getD (boxesFrom s head n ++ replicate m noBox) j noBox)
+unfolding boxesFrom
+boxes-small s head zero m j bytes = none-small m j
+boxes-small s head (suc n) m j bytes =
+    let next = fieldEnd s head in
+    one-small s head m j (boxesFrom s next n) (ltb head (length s)) bytes (λ i. boxes-small s next n m i bytes)
 
-boxes-end : (s : List ℕ) (k n : ℕ) → k + n ≡ 65 → k ≤ 64 → judgeBoxes s k n ≡ Good → length s ≤ 734
-unfolding judgeBoxes
-boxes-end s k zero e h good = let z : ⊥ = omega arith in absurd z
-boxes-end s k (suc n) e h good =
-    box-ends s k n (eqb (length s) (boxHead k)) refl h (λ l g. boxes-end s (suc k) n (omega arith) l g) good
+one-few : (n : ℕ) (b : HiddenBox) (boxes : List HiddenBox) (there : Bool) → length boxes ≤ n
+    → length (cond there (b ∷ boxes) []) ≤ suc n
+one-few n b boxes true h = omega arith
+one-few n b boxes false h = omega arith
 
-few : (s : List ℕ) → length s ≤ 734 → boxesIn s ≤ 64
+few : (s : List ℕ) (head n : ℕ) → length (boxesFrom s head n) ≤ n
+unfolding boxesFrom
+few s head zero = omega arith
+few s head (suc n) =
+    let next = fieldEnd s head in
+    one-few n (boxAt s head) (boxesFrom s next n) (ltb head (length s)) (few s next n)
+
+pub boxes-few : (s : List ℕ) → length (boxesIn s) ≤ 64
 unfolding boxesIn
-few s h = omega arith
+boxes-few s = few s firstBox 64
+
+places-small : (s : List ℕ) (j : ℕ) → Bytes s → TwoBytes (getD (boxPlaces (boxesIn s)) j noBox)
+unfolding boxPlaces boxesIn
+places-small s j bytes = boxes-small s firstBox 64 (64 - length (boxesIn s)) j bytes
+
+places-length : (boxes : List HiddenBox) → length boxes ≤ 64 → length (boxPlaces boxes) ≡ 64
+unfolding boxPlaces
+places-length boxes h =
+    let n = 64 - length boxes in
+    omega (arith, length-append boxes (replicate n noBox), length-replicate n noBox)
+
+-- the first places, as many as are counted, are the ticket's boxes
+pub shown-boxes : (s : List ℕ) → take (shown s .count) (shown s .boxes) ≡ boxesIn s
+unfolding shown boxPlaces
+shown-boxes s = take-append-seam (boxesIn s) (replicate (64 - length (boxesIn s)) noBox)
 
 -- each field of a good ticket is good
 record AllGood (s : List ℕ) : Type 0 where
-  operation : judgeOperation s ≡ Good
-  line : judgeLine s ≡ Good
-  vector : judgeVector s ≡ Good
-  length : judgeLength s ≡ Good
-  origin : judgeOrigin s ≡ Good
-  phase : judgePhase s ≡ Good
-  boxes : judgeBoxes s 0 65 ≡ Good
+  operation : isDone (judgeOperation s) ≡ true
+  line : isDone (judgeLine s) ≡ true
+  vector : isDone (judgeVector s) ≡ true
+  length : isDone (judgeLength s) ≡ true
+  origin : isDone (judgeOrigin s) ≡ true
+  phase : isDone (judgePhase s) ≡ true
+  boxes : isDone (judgeBoxes s firstBox 0 65) ≡ true
 
-all-good : (s : List ℕ) → judged s ≡ Good → AllGood s
+all-good : (s : List ℕ) → isDone (judged s) ≡ true → AllGood s
 unfolding judged
 all-good s good =
-    let from-phase = judgePhase s then judgeBoxes s 0 65 in
+    let from-phase = judgePhase s then judgeBoxes s firstBox 0 65 in
     let from-origin = judgeOrigin s then from-phase in
     let from-length = judgeLength s then from-origin in
     let from-vector = judgeVector s then from-length in
-    let operation = then-good (judgeOperation s) (judgeLine s then from-vector) good in
-    let line = then-good (judgeLine s) from-vector (operation .1) in
-    let vector = then-good (judgeVector s) from-length (line .1) in
-    let length = then-good (judgeLength s) from-origin (vector .1) in
-    let origin = then-good (judgeOrigin s) from-phase (length .1) in
-    let phase = then-good (judgePhase s) (judgeBoxes s 0 65) (origin .1) in
+    let operation = then-done (judgeOperation s) (judgeLine s then from-vector) good in
+    let line = then-done (judgeLine s) from-vector (operation .1) in
+    let vector = then-done (judgeVector s) from-length (line .1) in
+    let length = then-done (judgeLength s) from-origin (vector .1) in
+    let origin = then-done (judgeOrigin s) from-phase (length .1) in
+    let phase = then-done (judgePhase s) (judgeBoxes s firstBox 0 65) (origin .1) in
     record {
       operation = operation .0;
       line = line .0;
@@ -177,7 +161,7 @@ unfolding phaseAllowed
 periodic-zero p dx dy i h e = eqb-true i 0 (rw e at h)
 
 -- THE LAW: a ticket of bytes that is good shows allowed fields
-pub good-allowed : (s : List ℕ) → Bytes s → judged s ≡ Good → Allowed (shown s)
+pub good-allowed : (s : List ℕ) → Bytes s → isDone (judged s) ≡ true → Allowed (shown s)
 unfolding judgeOperation judgeLine judgeVector judgeLength judgeOrigin judgePhase operationKnown lineKnown vectorAllowed lengthAllowed originAllowed shown
 good-allowed s bytes good =
     let g = all-good s good in
@@ -206,23 +190,23 @@ good-allowed s bytes good =
       origin-below = ltb-true (originIn s) (lengthIn s) (value (judgeField s 20 5 2) _ BadOrigin 20 (g .origin));
       connected-phase = λ e. connected-below p (dxIn s) (dyIn s) (phaseIn s) phase (connected e);
       periodic-phase = λ e. periodic-zero p (dxIn s) (dyIn s) (phaseIn s) phase (periodic e);
-      count-to = few s (boxes-end s 0 65 refl (omega arith) (g .boxes));
-      places = places-length s 0 64;
-      box-numbers = λ k. places-small s 0 64 k bytes;
+      count-to = boxes-few s;
+      places = places-length (boxesIn s) (boxes-few s);
+      box-numbers = λ k. places-small s k bytes;
     }
 
--- what the reader answers, by its verdict
-pub reading-good : (s : List ℕ) → judged s ≡ Good → reading s .ticket ≡ shown s
-unfolding reading shownUnder
-reading-good s h = rw h
-
-pub reading-refused : (s : List ℕ) (fault : Fault) (at : ℕ) → judged s ≡ Refused fault at → reading s .ticket ≡ blank
-unfolding reading shownUnder
-reading-refused s fault at h = rw h
-
--- the same law as a caller meets it, who has called the reader and found its verdict good
-pub read-allowed : (s : List ℕ) (r : Reading) → Bytes s → r ≡ reading s → isGood (r .verdict) ≡ true → Allowed (r .ticket)
+-- what the reader shows of a ticket that is good, and of one that is refused
+pub reading-good : (s : List ℕ) → isDone (judged s) ≡ true → reading s .ticket ≡ shown s
 unfolding reading
-read-allowed s r bytes e good =
-    let verdict : judged s ≡ Good = is-good (judged s) (rw e at good) in
-    rw (e, reading-good s verdict) (good-allowed s bytes verdict)
+reading-good s h = when-done (judged s) (shown s) blank h
+
+pub reading-refused : (s : List ℕ) → isDone (judged s) ≡ false → reading s .ticket ≡ blank
+unfolding reading
+reading-refused s h = when-refused (judged s) (shown s) blank h
+
+-- the same law as a caller meets it, who has called the reader and found its answer done
+pub read-allowed : (s : List ℕ) (r : Reading) → Bytes s → r ≡ reading s → isDone (r .answer) ≡ true → Allowed (r .ticket)
+unfolding reading
+read-allowed s r bytes e done =
+    let good : isDone (judged s) ≡ true = rw e at done in
+    rw (e, reading-good s good) (good-allowed s bytes good)

@@ -1,6 +1,6 @@
 pub mod Fields
 pub mod Judging
 pub mod Reading
-pub mod Chaining
+pub mod Allowed
 pub mod Laws
 pub mod Worked

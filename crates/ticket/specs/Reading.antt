@@ -1,19 +1,16 @@
 -- Document 01, 'Refusals and what they return': "The ticket alone may be read by a caller, with refusals 1 to 9; it shows 64 box
 -- places, zero past its boxes, and at a refusal all fields and boxes are zero."
 -- Assumes nothing.
-use Prim.Native.Nat.{ℕ, zero, suc}
-use mathlib.Core.Bool.{cond}
-use mathlib.Core.List.{List, [], _∷_}
-use lib.ListN.{replicate}
-use lib.Dec.{ltb}
+use Prim.Native.Nat.{ℕ, _-_}
+use mathlib.Core.List.{List, _++_}
+use lib.ListN.{length, replicate}
 use lib.IntN.{pos}
-use Rattle.ticket.specs.Fields.{operationIn, lineIn, dxIn, dyIn, lengthIn, originIn, phaseIn, boxIn, boxesIn}
-use Rattle.ticket.specs.Judging.{judged, mostBoxes}
+use Rattle.refusal.specs.Answer.{whenDone}
+use Rattle.ticket.specs.Fields.{operationIn, lineIn, dxIn, dyIn, lengthIn, originIn, phaseIn, mostBoxes, boxesIn}
+use Rattle.ticket.specs.Judging.{judged}
 use Rattle.ticket.specs.declared.HiddenBox.{HiddenBox}
 use Rattle.ticket.specs.declared.Ticket.{Ticket}
 use Rattle.ticket.specs.declared.Reading.{Reading}
-use Rattle.ticket.specs.declared.Verdict.{Verdict}
-use Rattle.ticket.specs.declared.Verdict.the-variants.{Good, Refused}
 
 abbrev pub noBox : HiddenBox
 noBox = record { left = 0; top = 0; width = 0; height = 0 }
@@ -33,14 +30,9 @@ blank =
       boxes = replicate mostBoxes noBox;
     }
 
--- the k-th box place, "zero past its boxes"
-unfoldable pub boxPlace : List ℕ → ℕ → HiddenBox
-boxPlace s k = cond (ltb k (boxesIn s)) (boxIn s k) noBox
-
--- n box places from the k-th on
-unfoldable pub boxPlaces : List ℕ → ℕ → ℕ → List HiddenBox
-boxPlaces s k zero = []
-boxPlaces s k (suc n) = boxPlace s k ∷ boxPlaces s (suc k) n
+-- "it shows 64 box places, zero past its boxes"
+unfoldable pub boxPlaces : List HiddenBox → List HiddenBox
+boxPlaces boxes = boxes ++ replicate (mostBoxes - length boxes) noBox
 
 unfoldable pub shown : List ℕ → Ticket
 shown s =
@@ -52,14 +44,10 @@ shown s =
       length = lengthIn s;
       origin = originIn s;
       phase = phaseIn s;
-      count = boxesIn s;
-      boxes = boxPlaces s 0 mostBoxes;
+      count = length (boxesIn s);
+      boxes = boxPlaces (boxesIn s);
     }
-
-unfoldable pub shownUnder : Verdict → List ℕ → Ticket
-shownUnder Good s = shown s
-shownUnder (Refused fault at) s = blank
 
 -- what the reader of a ticket answers
 unfoldable pub reading : List ℕ → Reading
-reading s = record { verdict = judged s; ticket = shownUnder (judged s) s }
+reading s = record { answer = judged s; ticket = whenDone (judged s) (shown s) blank }

@@ -2,7 +2,7 @@
 // where a ticket is too short, the judging has refused it at an earlier test.
 ghost use mathlib.Core.Path.{_≡_};
 ghost use Prim.Native.Nat.{_+_, _<_, _≤_};
-ghost use Rattle.ticket.specs.Fields.{headBytes, vectorHead, byteAt, numberAt, signed16, operationIn, lineIn, dxIn, dyIn, lengthIn, originIn, phaseIn, boxHead, boxesIn};
+ghost use Rattle.ticket.specs.Fields.{headBytes, vectorHead, byteAt, numberAt, signed16, operationIn, lineIn, dxIn, dyIn, lengthIn, originIn, phaseIn, fieldEnd};
 
 // A one-byte tag and a two-byte length.
 pub const HEAD_BYTES: usize = 3;
@@ -20,10 +20,11 @@ pub const ORIGIN_HEAD: usize = 20;
 
 pub const PHASE_HEAD: usize = 25;
 
-// The boxes follow, each a head and four numbers.
+// The boxes follow, each behind the one before it.
 pub const FIRST_BOX: usize = 30;
 
-pub const BOX_BYTES: usize = 11;
+// "0 to 64 fields of tag 7"
+pub const MOST_BOXES: usize = 64;
 
 pub fn byte_at(s: &[u8], at: usize) -> u8
     ensures { λ r. ⌜ r ≡ byteAt (now (s .entry)) at ⌝ }
@@ -31,9 +32,10 @@ pub fn byte_at(s: &[u8], at: usize) -> u8
     if at < s.len() { s[at] } else { 0 }
 }
 
-// Big-endian. A u16, so that whoever reads a number knows that it is below 65536. No place asked for is large, so none wraps.
+// Big-endian. A u16, so that whoever reads a number knows that it is below 65536. No place asked for is large
+// (65 fields of 65,538 bytes end below 16,777,216), so none wraps.
 pub fn number_at(s: &[u8], at: usize) -> u16
-    requires { ⌜ at < 65536 ⌝ }
+    requires { ⌜ at < 16777216 ⌝ }
     ensures { λ r. ⌜ r ≡ numberAt (now (s .entry)) at ⌝ }
 {
     let high = byte_at(s, at) as u16;
@@ -107,20 +109,12 @@ pub fn phase_in(s: &[u8]) -> u16
     number_at(s, PHASE_HEAD + HEAD_BYTES)
 }
 
-pub fn box_head(k: usize) -> usize
-    requires { ⌜ k ≤ 64 ⌝ }
-    ensures { λ r. ⌜ r ≡ boxHead k ⌝ }
+// Behind a field: where the next head is due. The bound tells how far a walk of so many heads comes.
+pub fn field_end(s: &[u8], head: usize) -> usize
+    requires { ⌜ head < 8388608 ⌝ }
+    ensures ends { λ r. ⌜ r ≡ fieldEnd (now (s .entry)) head ⌝ }
+    ensures near { λ r. ⌜ r ≤ head + 65538 ⌝ }
 {
-    FIRST_BOX + BOX_BYTES * k
-}
-
-// How many boxes a ticket that ends behind a box has.
-pub fn count_boxes(s: &[u8]) -> usize
-    ensures { λ r. ⌜ r ≡ boxesIn (now (s .entry)) ⌝ }
-{
-    if s.len() < FIRST_BOX {
-        0
-    } else {
-        (s.len() - FIRST_BOX) / BOX_BYTES
-    }
+    let value = number_at(s, head + 1) as usize;
+    head + HEAD_BYTES + value
 }

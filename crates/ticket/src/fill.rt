@@ -4,9 +4,9 @@ use super::Ticket;
 use super::fields;
 ghost use mathlib.Core.Path.{_≡_};
 ghost use Prim.Native.Nat.{_<_};
-ghost use lib.ListN.{replicate};
-ghost use Rattle.ticket.specs.Fields.{boxIn};
-ghost use Rattle.ticket.specs.Reading.{noBox, blank, boxPlace, boxPlaces, shown};
+ghost use lib.ListN.{length, replicate};
+ghost use Rattle.ticket.specs.Fields.{boxAt, boxesIn};
+ghost use Rattle.ticket.specs.Reading.{noBox, blank, boxPlaces, shown};
 
 fn no_box() -> HiddenBox
     ensures { λ r. ⌜ r ≡ noBox ⌝ }
@@ -19,27 +19,16 @@ fn no_box() -> HiddenBox
     }
 }
 
-fn box_in(s: &[u8], k: usize) -> HiddenBox
-    requires { ⌜ k < 64 ⌝ }
-    ensures { λ r. ⌜ r ≡ boxIn (now (s .entry)) k ⌝ }
+fn box_at(s: &[u8], head: usize) -> HiddenBox
+    requires { ⌜ head < 8388608 ⌝ }
+    ensures { λ r. ⌜ r ≡ boxAt (now (s .entry)) head ⌝ }
 {
-    let value = fields::box_head(k) + fields::HEAD_BYTES;
+    let value = head + fields::HEAD_BYTES;
     HiddenBox {
         left: fields::number_at(s, value) as usize,
         top: fields::number_at(s, value + 2) as usize,
         width: fields::number_at(s, value + 4) as usize,
         height: fields::number_at(s, value + 6) as usize,
-    }
-}
-
-fn box_place(s: &[u8], k: usize) -> HiddenBox
-    requires { ⌜ k < 64 ⌝ }
-    ensures { λ r. ⌜ r ≡ boxPlace (now (s .entry)) k ⌝ }
-{
-    if k < fields::count_boxes(s) {
-        box_in(s, k)
-    } else {
-        no_box()
     }
 }
 
@@ -50,16 +39,28 @@ fn no_boxes() -> [HiddenBox; 64]
     [none; 64]
 }
 
-fn box_places(s: &[u8]) -> [HiddenBox; 64]
-    ensures { λ r. ⌜ r ≡ boxPlaces (now (s .entry)) 0 64 ⌝ }
+// The boxes of a ticket, found by one walk from head to head: how many they are, and their places.
+struct Boxes {
+    count: usize,
+    places: [HiddenBox; 64],
+}
+
+fn find_boxes(s: &[u8]) -> Boxes
+    ensures counted { λ r. ⌜ r .count ≡ length (boxesIn (now (s .entry))) ⌝ }
+    ensures placed { λ r. ⌜ r .places ≡ boxPlaces (boxesIn (now (s .entry))) ⌝ }
 {
-    let mut boxes = no_boxes();
-    let mut k: usize = 0;
-    while k < 64 {
-        boxes[k] = box_place(s, k);
-        k += 1;
+    let mut places = no_boxes();
+    let mut head: usize = fields::FIRST_BOX;
+    let mut count: usize = 0;
+    while count < fields::MOST_BOXES {
+        if s.len() <= head {
+            return Boxes { count, places };
+        }
+        places[count] = box_at(s, head);
+        head = fields::field_end(s, head);
+        count += 1;
     }
-    boxes
+    Boxes { count, places }
 }
 
 pub fn blank_ticket() -> Ticket
@@ -82,7 +83,8 @@ pub fn blank_ticket() -> Ticket
 pub fn show(s: &[u8]) -> Ticket
     ensures { λ r. ⌜ r ≡ shown (now (s .entry)) ⌝ }
 {
-    let boxes = box_places(s);
+    let found = find_boxes(s);
+    let boxes = found.places;
     Ticket {
         operation: fields::operation_in(s) as usize,
         line: fields::line_in(s) as usize,
@@ -91,7 +93,7 @@ pub fn show(s: &[u8]) -> Ticket
         length: fields::length_in(s) as usize,
         origin: fields::origin_in(s) as usize,
         phase: fields::phase_in(s) as usize,
-        count: fields::count_boxes(s),
+        count: found.count,
         boxes,
     }
 }

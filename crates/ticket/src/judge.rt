@@ -1,73 +1,67 @@
-// The judging of a ticket, field by field in the order of document 01. Each judgement is a verdict of its own, and of two the
-// first fault counts. A byte past the end reads as 0, so each test is safe even where an earlier one has failed.
-use super::Fault;
-use super::Verdict;
+// The judging of a ticket, field by field in the order of document 01. Each judgement is an answer of its own, and of two the
+// first refusal counts. A byte past the end reads as 0, so each test is safe even where an earlier one has failed.
 use super::fields;
+use super::fields::FIRST_BOX;
 use super::fields::HEAD_BYTES;
 use super::fields::LENGTH_HEAD;
 use super::fields::LINE_HEAD;
+use super::fields::MOST_BOXES;
 use super::fields::OPERATION_HEAD;
 use super::fields::ORIGIN_HEAD;
 use super::fields::PHASE_HEAD;
 use super::fields::VECTOR_HEAD;
-use super::is_good;
 use super::vector;
+use refusal::Answer;
+use refusal::Refusal;
+use refusal::chain::first_refusal;
+use refusal::chain::refuse_unless;
+use refusal::report;
 ghost use mathlib.Core.Path.{_≡_};
 ghost use Prim.Native.Nat.{_<_, _≤_};
-ghost use Rattle.ticket.specs.Judging.{unless, _then_, judgeHead, judgeSize, judgeField, operationKnown, lineKnown, isPeriodic, lengthAllowed, originAllowed, judgeOperation, judgeLine, judgeVector, judgeLength, judgeOrigin, judgePhase, judgeBox, judgeBoxes, judged};
+ghost use Rattle.ticket.specs.Fields.{firstBox};
+ghost use Rattle.ticket.specs.Judging.{judgeHead, judgeSize, judgeField, operationKnown, lineKnown, isPeriodic, lengthAllowed, originAllowed, judgeOperation, judgeLine, judgeVector, judgeLength, judgeOrigin, judgePhase, judgeBox, judgeBoxes, judged};
 
-// The limits of document 01: the operations 1 erode to 4 close, the lines 1 connected and 2 periodic, L to 8192, "0 to 64
-// fields of tag 7".
+// The limits of document 01: the operations 1 erode to 4 close, the lines 1 connected and 2 periodic, L to
+// 8192.
 const LAST_OPERATION: u8 = 4;
 
 const PERIODIC: u8 = 2;
 
 const MOST_LENGTH: u16 = 8192;
 
-const MOST_BOXES: usize = 64;
-
-// Good, or the fault, with its field's head as the place.
-fn refuse_unless(test: bool, fault: Fault, at: usize) -> Verdict
-    ensures { λ r. ⌜ r ≡ unless test fault at ⌝ }
-{
-    if test {
-        Verdict::Good
-    } else {
-        Verdict::Refused(fault, at)
-    }
-}
-
-fn first_fault(a: Verdict, b: Verdict) -> Verdict
-    ensures { λ r. ⌜ r ≡ (a then b) ⌝ }
-{
-    if is_good(a) { b } else { a }
-}
-
 // A head: it is complete, and its tag is the one due. No place asked for is large, so no sum of places wraps.
-fn judge_head(s: &[u8], at: usize, tag: u8) -> Verdict
-    requires { ⌜ at < 65536 ⌝ }
+fn judge_head(s: &[u8], at: usize, tag: u8) -> Answer
+    requires { ⌜ at < 8388608 ⌝ }
     ensures { λ r. ⌜ r ≡ judgeHead (now (s .entry)) at tag ⌝ }
 {
-    let ends = refuse_unless(at + HEAD_BYTES <= s.len(), Fault::Ends, at);
-    let wrong = refuse_unless(fields::byte_at(s, at) == tag, Fault::WrongTag, at);
-    first_fault(ends, wrong)
+    let ends = refuse_unless(at + HEAD_BYTES <= s.len(), Refusal::TicketEnds, at);
+    let wrong = refuse_unless(fields::byte_at(s, at) == tag, Refusal::WrongTag, at);
+    first_refusal(ends, wrong)
 }
 
 // A length: it is the one due, and the value is complete.
-fn judge_size(s: &[u8], at: usize, size: u16) -> Verdict
-    requires { ⌜ at < 32768 ⌝ }
+fn judge_size(s: &[u8], at: usize, size: u16) -> Answer
+    requires { ⌜ at < 8388608 ⌝ }
     ensures { λ r. ⌜ r ≡ judgeSize (now (s .entry)) at size ⌝ }
 {
-    let wrong = refuse_unless(fields::number_at(s, at + 1) == size, Fault::WrongLength, at);
-    let ends = refuse_unless(at + HEAD_BYTES + size as usize <= s.len(), Fault::Ends, at);
-    first_fault(wrong, ends)
+    let wrong = refuse_unless(
+        fields::number_at(s, at + 1) == size,
+        Refusal::WrongLength,
+        at,
+    );
+    let ends = refuse_unless(
+        at + HEAD_BYTES + size as usize <= s.len(),
+        Refusal::TicketEnds,
+        at,
+    );
+    first_refusal(wrong, ends)
 }
 
-fn judge_field(s: &[u8], at: usize, tag: u8, size: u16) -> Verdict
-    requires { ⌜ at < 32768 ⌝ }
+fn judge_field(s: &[u8], at: usize, tag: u8, size: u16) -> Answer
+    requires { ⌜ at < 8388608 ⌝ }
     ensures { λ r. ⌜ r ≡ judgeField (now (s .entry)) at tag size ⌝ }
 {
-    first_fault(judge_head(s, at, tag), judge_size(s, at, size))
+    first_refusal(judge_head(s, at, tag), judge_size(s, at, size))
 }
 
 // The rules of the values, one function each.
@@ -102,58 +96,58 @@ fn origin_allowed(l: u16, o: u16) -> bool
 }
 
 // The six fields that stand once: the field, then its value's rule.
-fn judge_operation(s: &[u8]) -> Verdict
+fn judge_operation(s: &[u8]) -> Answer
     ensures { λ r. ⌜ r ≡ judgeOperation (now (s .entry)) ⌝ }
 {
     let known = operation_known(fields::operation_in(s));
-    first_fault(
+    first_refusal(
         judge_field(s, OPERATION_HEAD, 1, 1),
-        refuse_unless(known, Fault::Unknown, OPERATION_HEAD),
+        refuse_unless(known, Refusal::Unknown, OPERATION_HEAD),
     )
 }
 
-fn judge_line(s: &[u8]) -> Verdict
+fn judge_line(s: &[u8]) -> Answer
     ensures { λ r. ⌜ r ≡ judgeLine (now (s .entry)) ⌝ }
 {
     let known = line_known(fields::line_in(s));
-    first_fault(
+    first_refusal(
         judge_field(s, LINE_HEAD, 2, 1),
-        refuse_unless(known, Fault::Unknown, LINE_HEAD),
+        refuse_unless(known, Refusal::Unknown, LINE_HEAD),
     )
 }
 
-fn judge_vector(s: &[u8]) -> Verdict
+fn judge_vector(s: &[u8]) -> Answer
     ensures { λ r. ⌜ r ≡ judgeVector (now (s .entry)) ⌝ }
 {
     let periodic = is_periodic(fields::line_in(s));
     let allowed = vector::vector_allowed(periodic, fields::dx_bits(s), fields::dy_bits(s));
-    first_fault(
+    first_refusal(
         judge_field(s, VECTOR_HEAD, 3, 4),
-        refuse_unless(allowed, Fault::BadVector, VECTOR_HEAD),
+        refuse_unless(allowed, Refusal::BadVector, VECTOR_HEAD),
     )
 }
 
-fn judge_length(s: &[u8]) -> Verdict
+fn judge_length(s: &[u8]) -> Answer
     ensures { λ r. ⌜ r ≡ judgeLength (now (s .entry)) ⌝ }
 {
     let allowed = length_allowed(fields::length_in(s));
-    first_fault(
+    first_refusal(
         judge_field(s, LENGTH_HEAD, 4, 2),
-        refuse_unless(allowed, Fault::BadLength, LENGTH_HEAD),
+        refuse_unless(allowed, Refusal::BadLength, LENGTH_HEAD),
     )
 }
 
-fn judge_origin(s: &[u8]) -> Verdict
+fn judge_origin(s: &[u8]) -> Answer
     ensures { λ r. ⌜ r ≡ judgeOrigin (now (s .entry)) ⌝ }
 {
     let allowed = origin_allowed(fields::length_in(s), fields::origin_in(s));
-    first_fault(
+    first_refusal(
         judge_field(s, ORIGIN_HEAD, 5, 2),
-        refuse_unless(allowed, Fault::BadOrigin, ORIGIN_HEAD),
+        refuse_unless(allowed, Refusal::BadOrigin, ORIGIN_HEAD),
     )
 }
 
-fn judge_phase(s: &[u8]) -> Verdict
+fn judge_phase(s: &[u8]) -> Answer
     ensures { λ r. ⌜ r ≡ judgePhase (now (s .entry)) ⌝ }
 {
     let periodic = is_periodic(fields::line_in(s));
@@ -163,45 +157,46 @@ fn judge_phase(s: &[u8]) -> Verdict
         fields::dy_bits(s),
         fields::phase_in(s),
     );
-    first_fault(
+    first_refusal(
         judge_field(s, PHASE_HEAD, 6, 2),
-        refuse_unless(allowed, Fault::BadPhase, PHASE_HEAD),
+        refuse_unless(allowed, Refusal::BadPhase, PHASE_HEAD),
     )
 }
 
 // The 65th box is judged behind its tag and before its length.
-fn judge_box(s: &[u8], k: usize) -> Verdict
-    requires { ⌜ k ≤ 64 ⌝ }
-    ensures { λ r. ⌜ r ≡ judgeBox (now (s .entry)) k ⌝ }
+fn judge_box(s: &[u8], head: usize, k: usize) -> Answer
+    requires { ⌜ head < 8388608 ⌝ }
+    ensures { λ r. ⌜ r ≡ judgeBox (now (s .entry)) head k ⌝ }
 {
-    let at = fields::box_head(k);
-    let head = judge_head(s, at, 7);
-    let many = refuse_unless(k < MOST_BOXES, Fault::TooManyBoxes, at);
-    let size = judge_size(s, at, 8);
-    first_fault(head, first_fault(many, size))
+    let start = judge_head(s, head, 7);
+    let many = refuse_unless(k < MOST_BOXES, Refusal::TooManyBoxes, head);
+    let size = judge_size(s, head, 8);
+    first_refusal(start, first_refusal(many, size))
 }
 
 // The boxes until the ticket ends before a head. The 65th is refused, so none behind it is asked for.
-fn judge_boxes(s: &[u8]) -> Verdict
-    ensures { λ r. ⌜ r ≡ judgeBoxes (now (s .entry)) 0 65 ⌝ }
+fn judge_boxes(s: &[u8]) -> Answer
+    ensures { λ r. ⌜ r ≡ judgeBoxes (now (s .entry)) firstBox 0 65 ⌝ }
 {
+    let mut head: usize = FIRST_BOX;
     let mut k: usize = 0;
     while k <= MOST_BOXES {
-        if s.len() == fields::box_head(k) {
-            return Verdict::Good;
+        if s.len() == head {
+            return Answer::Done(0);
         }
-        let found = judge_box(s, k);
-        if is_good(found) {
+        let found = judge_box(s, head, k);
+        if report::is_done(found) {
+            head = fields::field_end(s, head);
             k += 1;
         } else {
             return found;
         }
     }
-    Verdict::Good
+    Answer::Done(0)
 }
 
-// The whole ticket: every field is judged, and the first fault counts.
-pub fn judge(s: &[u8]) -> Verdict
+// The whole ticket: every field is judged, and the first refusal counts.
+pub fn judge(s: &[u8]) -> Answer
     ensures { λ r. ⌜ r ≡ judged (now (s .entry)) ⌝ }
 {
     let operation = judge_operation(s);
@@ -211,9 +206,9 @@ pub fn judge(s: &[u8]) -> Verdict
     let origin = judge_origin(s);
     let phase = judge_phase(s);
     let boxes = judge_boxes(s);
-    let from_length = first_fault(length, first_fault(origin, first_fault(phase, boxes)));
-    first_fault(
+    let from_length = first_refusal(length, first_refusal(origin, first_refusal(phase, boxes)));
+    first_refusal(
         operation,
-        first_fault(line, first_fault(vector, from_length)),
+        first_refusal(line, first_refusal(vector, from_length)),
     )
 }

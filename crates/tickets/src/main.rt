@@ -16,8 +16,9 @@
 mod text;
 
 use libc::STDIN_FILENO;
+use refusal::Answer;
+use refusal::report;
 use ticket::Ticket;
-use ticket::Verdict;
 ghost use Prim.Native.Nat.{_<_, _≤_};
 ghost use lib.ListN.{length};
 
@@ -58,10 +59,10 @@ fn print_refused(number: usize, place: usize) {
 
 fn print_ticket(s: &[u8]) {
     let reading = ticket::read(s);
-    let verdict = reading.verdict;
-    match verdict {
-        Verdict::Good => print_good(reading.ticket),
-        Verdict::Refused(fault, place) => print_refused(ticket::fault_number(fault), place),
+    let answer = reading.answer;
+    match answer {
+        Answer::Done(_) => print_good(reading.ticket),
+        Answer::Refused(refusal, place) => print_refused(report::refusal_number(refusal), place),
     }
 }
 

@@ -10,14 +10,14 @@ returns : tie.Need-returns
 returns c =
     let g = c .before .before in
     let j = g .before in
-    reads-good (now (j .before .before .args .ticket)) (j .judge .ensures) (sym (g .is-good .ensures) ∙ c .before .if1 .taken)
+    reads-good (now (j .before .before .args .ticket)) (j .judge .ensures) (sym (g .is-done .ensures) ∙ c .before .if1 .taken)
     (c .show .ensures)
 
 returns-2 : tie.Need-returns-2
 returns-2 c =
     let g = c .before .before in
     let j = g .before in
-    reads-refused (now (j .before .before .args .ticket)) (j .judge .ensures) (sym (g .is-good .ensures) ∙ c .before .if1 .left)
+    reads-refused (now (j .before .before .args .ticket)) (j .judge .ensures) (sym (g .is-done .ensures) ∙ c .before .if1 .left)
     (c .blank-ticket .ensures)
 
 pub read-spec : {M : Type 1} → statement M

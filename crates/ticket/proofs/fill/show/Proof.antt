@@ -8,26 +8,25 @@ use Rattle.ticket.proofs.fill.show.Tie as tie
 
 returns : tie.Need-returns
 returns c =
-    let o = c .before .before in
-    let y = o .before .before in
-    let l = y .before .before in
-    let b = l .before .before in
+    let l = c .before .before in
+    let x = l .before .before in
+    let o = x .before .before in
+    let b = o .before .before in
     ticket-shown (now (b .before .before .args .s))
-    (l .before .operation-in .ensures)
-    (l .line-in .ensures)
-    (kept (y .before .dx-in .ensures) (y .before .dx-in .ok))
-    (kept (y .dy-in .ensures) (y .dy-in .ok))
-    (o .before .length-in .ensures)
-    (o .origin-in .ensures)
-    (c .before .phase-in .ensures)
-    (c .count-boxes .ensures)
-    (b .box-places .ensures)
+    (o .operation-in .ensures)
+    (x .before .line-in .ensures)
+    (kept (x .dx-in .ensures) (x .dx-in .ok))
+    (kept (l .before .dy-in .ensures) (l .before .dy-in .ok))
+    (l .length-in .ensures)
+    (c .before .origin-in .ensures)
+    (c .phase-in .ensures)
+    (b .find-boxes .ensures .0)
+    (b .find-boxes .ensures .1)
 
 pub show-spec : {M : Type 1} → statement M
 show-spec =
     tie.close
     (tie.spec
-    (λ c. search needs)
     (λ c. search needs)
     (λ c. search needs)
     (λ c. search needs)

@@ -3,7 +3,7 @@ use borrow.Author.Needs.{needs}
 use mathlib.Core.Path.{ap, _∙_}
 use Rattle.ticket.specs.Judging.{judgeLength, lengthAllowed}
 use Rattle.ticket.specs.Fields.{lengthHead}
-use Rattle.ticket.specs.declared.Fault.the-variants.{BadLength}
+use Rattle.refusal.specs.declared.Refusal.the-variants.{BadLength}
 use Rattle.ticket.proofs.Chains.{field-judged}
 use Rattle.ticket.proofs.judge.judge_length.Statement.{statement}
 use Rattle.ticket.proofs.judge.judge_length.Tie as tie
@@ -13,7 +13,7 @@ unfolding judgeLength
 returns c =
     let w = c .before in
     let t = w .before .before in
-    field-judged BadLength lengthHead (c .first-fault .ensures) (w .before .judge-field .ensures) (w .refuse-unless .ensures)
+    field-judged BadLength lengthHead (c .first-refusal .ensures) (w .before .judge-field .ensures) (w .refuse-unless .ensures)
     (t .length-allowed .ensures ∙ ap lengthAllowed (t .before .length-in .ensures))
 
 pub judge-length-spec : {M : Type 1} → statement M

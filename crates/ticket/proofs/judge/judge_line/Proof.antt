@@ -3,7 +3,7 @@ use borrow.Author.Needs.{needs}
 use mathlib.Core.Path.{ap, _∙_}
 use Rattle.ticket.specs.Judging.{judgeLine, lineKnown}
 use Rattle.ticket.specs.Fields.{lineHead}
-use Rattle.ticket.specs.declared.Fault.the-variants.{Unknown}
+use Rattle.refusal.specs.declared.Refusal.the-variants.{Unknown}
 use Rattle.ticket.proofs.Chains.{field-judged}
 use Rattle.ticket.proofs.judge.judge_line.Statement.{statement}
 use Rattle.ticket.proofs.judge.judge_line.Tie as tie
@@ -13,7 +13,7 @@ unfolding judgeLine
 returns c =
     let w = c .before in
     let t = w .before .before in
-    field-judged Unknown lineHead (c .first-fault .ensures) (w .before .judge-field .ensures) (w .refuse-unless .ensures)
+    field-judged Unknown lineHead (c .first-refusal .ensures) (w .before .judge-field .ensures) (w .refuse-unless .ensures)
     (t .line-known .ensures ∙ ap lineKnown (t .before .line-in .ensures))
 
 pub judge-line-spec : {M : Type 1} → statement M

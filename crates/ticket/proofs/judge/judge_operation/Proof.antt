@@ -3,7 +3,7 @@ use borrow.Author.Needs.{needs}
 use mathlib.Core.Path.{ap, _∙_}
 use Rattle.ticket.specs.Judging.{judgeOperation, operationKnown}
 use Rattle.ticket.specs.Fields.{operationHead}
-use Rattle.ticket.specs.declared.Fault.the-variants.{Unknown}
+use Rattle.refusal.specs.declared.Refusal.the-variants.{Unknown}
 use Rattle.ticket.proofs.Chains.{field-judged}
 use Rattle.ticket.proofs.judge.judge_operation.Statement.{statement}
 use Rattle.ticket.proofs.judge.judge_operation.Tie as tie
@@ -13,7 +13,7 @@ unfolding judgeOperation
 returns c =
     let w = c .before in
     let t = w .before .before in
-    field-judged Unknown operationHead (c .first-fault .ensures) (w .before .judge-field .ensures) (w .refuse-unless .ensures)
+    field-judged Unknown operationHead (c .first-refusal .ensures) (w .before .judge-field .ensures) (w .refuse-unless .ensures)
     (t .operation-known .ensures ∙ ap operationKnown (t .before .operation-in .ensures))
 
 pub judge-operation-spec : {M : Type 1} → statement M

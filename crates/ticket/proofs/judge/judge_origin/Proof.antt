@@ -3,7 +3,7 @@ use borrow.Author.Needs.{needs}
 use mathlib.Core.Path.{ap₂, _∙_}
 use Rattle.ticket.specs.Judging.{judgeOrigin, originAllowed}
 use Rattle.ticket.specs.Fields.{originHead}
-use Rattle.ticket.specs.declared.Fault.the-variants.{BadOrigin}
+use Rattle.refusal.specs.declared.Refusal.the-variants.{BadOrigin}
 use Rattle.ticket.proofs.Chains.{field-judged}
 use Rattle.ticket.proofs.judge.judge_origin.Statement.{statement}
 use Rattle.ticket.proofs.judge.judge_origin.Tie as tie
@@ -13,7 +13,7 @@ unfolding judgeOrigin
 returns c =
     let w = c .before in
     let t = w .before .before in
-    field-judged BadOrigin originHead (c .first-fault .ensures) (w .before .judge-field .ensures) (w .refuse-unless .ensures)
+    field-judged BadOrigin originHead (c .first-refusal .ensures) (w .before .judge-field .ensures) (w .refuse-unless .ensures)
     (t .origin-allowed .ensures ∙ ap₂ originAllowed (t .before .before .length-in .ensures) (t .before .origin-in .ensures))
 
 pub judge-origin-spec : {M : Type 1} → statement M

@@ -1,0 +1,29 @@
+// What a reader or a job answers: that it is done, with its work, or one of document 01's refusals with its place. No function
+// has a `requires`. The definitions stand in specs/: Refusal (the numbers), Answer (number, place and work), Chain (judgements
+// one after the other, and their laws). A further refusal is one case here and one number in `report` and specs/Refusal.
+pub mod chain; // chain.rt: judgements one after the other
+pub mod report; // report.rt: an answer as numbers
+
+// Why nothing is done: the refusals 1 to 14 of document 01, in this order.
+pub enum Refusal {
+    TicketEnds, // ticket ends in a field, or before one of tags 1 to 6
+    WrongTag, // a tag other than the one due
+    WrongLength, // wrong field length
+    Unknown, // unknown operation or line
+    TooManyBoxes, // a 65th box
+    BadVector, // vector not allowed
+    BadLength, // L is 0 or above 8192
+    BadOrigin, // o not below L
+    BadPhase, // phase not allowed
+    BadSides, // w, h or a stride beyond its limits
+    SourceTooShort, // source page doesn't fit its tray
+    OutputTooShort, // output page doesn't fit its tray
+    ScratchTooShort, // scratch too short
+    BadBox, // box with a zero side or passing the page's edge
+}
+
+// Done, with the work; or refused, with the place: the head of a field, a box's number, or 0.
+pub enum Answer {
+    Done(u64),
+    Refused(Refusal, usize),
+}

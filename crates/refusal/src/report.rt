@@ -1,0 +1,65 @@
+// An answer as three numbers: document 01's number of a refusal (0 for what is done), its place, and the work.
+ghost use mathlib.Core.Path.{_≡_};
+ghost use Rattle.refusal.specs.Refusal.{refusalNumber};
+ghost use Rattle.refusal.specs.Answer.{numberOf, placeOf, workIn, isDone};
+use super::Answer;
+use super::Refusal;
+
+// The number that document 01 gives a refusal.
+pub fn refusal_number(r: Refusal) -> usize
+    ensures { λ n. ⌜ n ≡ refusalNumber r ⌝ }
+{
+    match r {
+        Refusal::TicketEnds => 1,
+        Refusal::WrongTag => 2,
+        Refusal::WrongLength => 3,
+        Refusal::Unknown => 4,
+        Refusal::TooManyBoxes => 5,
+        Refusal::BadVector => 6,
+        Refusal::BadLength => 7,
+        Refusal::BadOrigin => 8,
+        Refusal::BadPhase => 9,
+        Refusal::BadSides => 10,
+        Refusal::SourceTooShort => 11,
+        Refusal::OutputTooShort => 12,
+        Refusal::ScratchTooShort => 13,
+        Refusal::BadBox => 14,
+    }
+}
+
+pub fn number(a: Answer) -> usize
+    ensures { λ r. ⌜ r ≡ numberOf a ⌝ }
+{
+    match a {
+        Answer::Done(_) => 0,
+        Answer::Refused(refusal, _) => refusal_number(refusal),
+    }
+}
+
+pub fn place(a: Answer) -> usize
+    ensures { λ r. ⌜ r ≡ placeOf a ⌝ }
+{
+    match a {
+        Answer::Done(_) => 0,
+        Answer::Refused(_, at) => at,
+    }
+}
+
+pub fn work(a: Answer) -> u64
+    ensures { λ r. ⌜ r ≡ workIn a ⌝ }
+{
+    match a {
+        Answer::Done(work) => work,
+        Answer::Refused(_, _) => 0,
+    }
+}
+
+// Whether nothing is refused.
+pub fn is_done(a: Answer) -> bool
+    ensures { λ r. ⌜ r ≡ isDone a ⌝ }
+{
+    match a {
+        Answer::Done(_) => true,
+        Answer::Refused(_, _) => false,
+    }
+}
