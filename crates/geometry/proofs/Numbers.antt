@@ -11,7 +11,7 @@ use Rattle.geometry.specs.Line.{period, stepOf, majorAt}
 use Rattle.geometry.specs.Number.{inPage, behind, ahead}
 use Rattle.geometry.specs.Drift.{Sound, Inside, falls, drift, mirrored, reach}
 use Rattle.geometry.specs.Tables.{OnPage, OnLine, Entries, Walks, LastStep}
-use Rattle.geometry.specs.Numbering.{untrue}
+use Rattle.geometry.specs.Laws.Numbering.{untrue}
 use Rattle.geometry.specs.Laws.{drift-low, step-low, drift-rises, mirrored-below, major-at-step, major-beyond, period-forward, inside, inside-in-page, behind-reach-of, reach-by, ahead-is, major-near}
 use Rattle.geometry.specs.declared.Line.{Line}
 

@@ -17,7 +17,7 @@ use Rattle.geometry.specs.Vector.{majorOf, minorOf}
 use Rattle.geometry.specs.Line.{floorDiv, D, shift, profile}
 use Rattle.geometry.specs.Drift.{Allowed, drift}
 use Rattle.geometry.specs.Tables.{Slight}
-use Rattle.geometry.specs.Integers.{below, above}
+use Rattle.geometry.specs.Laws.Integers.{below, above}
 use Rattle.geometry.specs.Laws.{major-near}
 use Rattle.geometry.specs.declared.Line.{Line}
 use Rattle.geometry.proofs.Bits.{back, near, back-of, fits₂, floor-small}

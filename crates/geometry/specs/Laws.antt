@@ -3,6 +3,13 @@
 -- In each, t = stepOf l M is the step at which a pixel (M, m) stands on its line, x = mirrored (falls l) W m its place on the
 -- minor axis in normal form, H and W are the page's sides on the major and the minor axis.
 -- Assumes nothing.
+pub mod Counting
+pub mod Floor
+pub mod Integers
+pub mod Normal
+pub mod Numbering
+pub mod Rows
+pub mod Slope
 use mathlib.Core.Path.{_≡_, refl, sym, ap, _∙_}
 use mathlib.Core.Bool.{Bool, true, false, cond, _&&_, _||_}
 use mathlib.Core.Option.{some}
@@ -17,10 +24,10 @@ use Rattle.geometry.specs.Vector.{shallow, steep, majorOf}
 use Rattle.geometry.specs.Line.{period, profile, landing, stepOf, majorAt}
 use Rattle.geometry.specs.Number.{inPage, behind, ahead}
 use Rattle.geometry.specs.Drift.{Sound, Allowed, Inside, Lands, falls, drift, signed, mirrored, reach}
-use Rattle.geometry.specs.Slope as slope
-use Rattle.geometry.specs.Rows as rows
-use Rattle.geometry.specs.Normal as normal
-use Rattle.geometry.specs.Numbering as numbering
+use Rattle.geometry.specs.Laws.Slope as slope
+use Rattle.geometry.specs.Laws.Rows as rows
+use Rattle.geometry.specs.Laws.Normal as normal
+use Rattle.geometry.specs.Laws.Numbering as numbering
 use Rattle.geometry.specs.declared.Line.{Line}
 
 -- every vector that a ticket may have is sound

@@ -14,9 +14,9 @@ use Rattle.geometry.specs.Vector.{majorOf}
 use Rattle.geometry.specs.Line.{period, landing, stepOf, majorAt}
 use Rattle.geometry.specs.Number.{inPage, behind, ahead}
 use Rattle.geometry.specs.Drift.{Sound, Inside, falls, drift, mirrored, first, reach}
-use Rattle.geometry.specs.Rows.{drift-rises}
-use Rattle.geometry.specs.Normal.{in-page, inside, inside-in-page, lands, same-leb, and-true}
-use Rattle.geometry.specs.Counting.{First, first-is-first, first-unique, Run, count-run}
+use Rattle.geometry.specs.Laws.Rows.{drift-rises}
+use Rattle.geometry.specs.Laws.Normal.{in-page, inside, inside-in-page, lands, same-leb, and-true}
+use Rattle.geometry.specs.Laws.Counting.{First, first-is-first, first-unique, Run, count-run}
 use Rattle.geometry.specs.declared.Line.{Line}
 
 -- what is not true is false

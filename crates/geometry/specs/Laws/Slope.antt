@@ -9,7 +9,7 @@ use lib.Dec.{leb, ltb}
 use lib.IntN.{ℤ, pos, negsuc, natAbs}
 use lib.Signed.{leZ, ltZ}
 use Rattle.geometry.specs.Vector.{shallow, steep, majorOf, minorOf}
-use Rattle.geometry.specs.Normal.{and-true}
+use Rattle.geometry.specs.Laws.Normal.{and-true}
 
 -- a component that is at least one, and at least n or above n
 at-least : (n : ℕ) (z : ℤ) → leZ (pos 1) z && leZ (pos n) z ≡ true → (1 ≤ natAbs z) × (n ≤ natAbs z)

@@ -13,8 +13,8 @@ use lib.IntN.{ℤ, pos, negsuc, negℤ, subℕ, _+ℤ_, _-ℤ_, +ℤ-assoc, +ℤ
 use Rattle.geometry.specs.Line.{profile, place, landing, stepOf, majorAt}
 use Rattle.geometry.specs.Number.{within, inPage}
 use Rattle.geometry.specs.Drift.{Sound, Inside, Lands, falls, drift, signed, mirrored}
-use Rattle.geometry.specs.Integers.{below, above, moved-up, moved-down}
-use Rattle.geometry.specs.Rows.{profile-signed}
+use Rattle.geometry.specs.Laws.Integers.{below, above, moved-up, moved-down}
+use Rattle.geometry.specs.Laws.Rows.{profile-signed}
 use Rattle.geometry.specs.declared.Line.{Line}
 
 -- tests that pass together are equal

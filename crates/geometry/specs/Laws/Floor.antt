@@ -11,7 +11,7 @@ use lib.Dec.{T, le→leb, lt→ltb}
 use lib.IntN.{ℤ, pos, negsuc, negℤ, _+ℤ_, _-ℤ_, _*ℤ_}
 use lib.Signed.{_≤ℤ_, _<ℤ_, leZ, ltZ, quotZ, remZ}
 use Rattle.geometry.specs.Line.{floorDiv}
-use Rattle.geometry.specs.Integers.{below}
+use Rattle.geometry.specs.Laws.Integers.{below}
 
 -- ---- order below zero
 

@@ -13,7 +13,7 @@ use lib.Signed.{nonNeg}
 use Rattle.geometry.specs.Vector.{majorOf, minorOf}
 use Rattle.geometry.specs.Line.{floorDiv, D, shift, period, profile}
 use Rattle.geometry.specs.Drift.{Sound, falls, drift, signed}
-use Rattle.geometry.specs.Integers.{below, above, minus-first, size-signed, signed-minus}
+use Rattle.geometry.specs.Laws.Integers.{below, above, minus-first, size-signed, signed-minus}
 use Rattle.geometry.specs.declared.Line.{Line}
 
 -- a larger number has no smaller quotient
