@@ -12,7 +12,7 @@ use mir.Syntax.{w64}
 use mir.Val.{SFits, toZ, ofZ}
 use mir.ValLaws.{toZ-ofZ, sfits-le}
 use Rattle.geometry.specs.Line.{floorDiv}
-use Rattle.geometry.specs.Laws.Floor.{floor-of-rest, floor-of-none}
+use Rattle.geometry.proofs.Floor.{floor-of-rest, floor-of-none}
 
 -- what is read back from the bits of z
 abbrev pub back : ℤ → ℤ

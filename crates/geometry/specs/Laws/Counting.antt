@@ -7,14 +7,7 @@ use Prim.Native.Nat.{ℕ, zero, suc, _+_, _≤_, _<_}
 use native.Mathlib.Decide.{decLt}
 use native.Mathlib.Omega.{arith}
 use Rattle.geometry.specs.Number.{count}
-use Rattle.geometry.specs.Drift.{first}
-
--- what the first number is: none before it passes, and it passes itself unless it is the end
-pub record First (test : ℕ → Bool) (k n r : ℕ) : Type 0 where
-  pub from : k ≤ r
-  pub to : r ≤ k + n
-  pub before : (s : ℕ) → k ≤ s → s < r → test s ≡ false
-  pub passes : r < k + n → test r ≡ true
+use Rattle.geometry.specs.Drift.{First, first}
 
 pub first-is-first : (test : ℕ → Bool) (k n : ℕ) → First test k n (first test k n)
 unfolding first

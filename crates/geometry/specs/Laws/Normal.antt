@@ -1,18 +1,18 @@
 -- Steps in normal form: proofs of the laws in Laws that say where a step lands and whether it is in the page.
 -- Assumes nothing.
 use mathlib.Core.Path.{_≡_, refl, sym, ap, ap₂, _∙_}
-use mathlib.Core.Bool.{Bool, true, false, _&&_, false≢true}
-use mathlib.Core.Logic.{by-cases}
-use mathlib.Core.Option.{Option, some, Option·some-injective, Option·none-ne-some}
+use mathlib.Core.Bool.{Bool, true, false, _&&_, false≢true, and-eq-true-iff}
+use mathlib.Core.Logic.{_⊎_, inl, inr, by-cases}
+use mathlib.Core.Option.{Option, none, some, Option·some-injective, Option·none-ne-some}
 use Prim.Native.Nat.{ℕ, suc, _+_, _-_, _≤_, _<_}
-use native.Mathlib.Decide.{decLe}
+use native.Mathlib.Decide.{decLe, decLt}
 use native.Mathlib.Omega.{arith}
 use borrow.Author.Tests.{ltb-true, leb-true, lt-ltb, le-leb, lt-leb}
 use lib.Dec.{ltb, leb}
-use lib.IntN.{ℤ, pos, negsuc, negℤ, subℕ, _+ℤ_, _-ℤ_, +ℤ-assoc, +ℤ-comm, +ℤ-invl, +ℤ-idl}
+use lib.IntN.{ℤ, pos, negsuc, negℤ, subℕ, _+ℤ_, _-ℤ_, +ℤ-assoc, +ℤ-comm, +ℤ-invl, +ℤ-invr, +ℤ-idl, +ℤ-idr}
 use Rattle.geometry.specs.Line.{profile, place, landing, stepOf, majorAt}
 use Rattle.geometry.specs.Number.{within, inPage}
-use Rattle.geometry.specs.Drift.{Sound, Inside, Lands, falls, drift, signed, mirrored}
+use Rattle.geometry.specs.Drift.{Sound, Inside, Lands, StepIn, falls, drift, signed, mirrored}
 use Rattle.geometry.specs.Laws.Integers.{below, above, moved-up, moved-down}
 use Rattle.geometry.specs.Laws.Rows.{profile-signed}
 use Rattle.geometry.specs.declared.Line.{Line}
@@ -67,10 +67,6 @@ landed-within false long W m before after h =
     ap (λ (t : Bool). long && t) (ap (λ (z : ℤ). within (place z) W) (moved-up m after before) ∙ within-placed (m + after) before W)
     ∙ and-group long (leb before (m + after)) (ltb (m + after) (W + before))
 
-pub and-true : (a b : Bool) → a && b ≡ true → (a ≡ true) × (b ≡ true)
-and-true true b e = (refl, e)
-and-true false b e = absurd (false≢true e)
-
 -- a place is the integer that it was read from
 place-some : (z : ℤ) (n : ℕ) → place z ≡ some n → z ≡ pos n
 unfolding place
@@ -92,6 +88,50 @@ landing-onward l m t s r m′ e =
     let here : pos m +ℤ (profile l s -ℤ profile l t) ≡ pos m′ = place-some _ m′ e in
     ap (λ (z : ℤ). place (z +ℤ (profile l r -ℤ profile l s))) (sym here) ∙ ap place (two-parts (pos m) (profile l r) (profile l s) (profile l t))
 
+-- a line that has come to m at a step is at m at that step
+pub landing-still : (l : Line) (m t : ℕ) → landing l m t t ≡ some m
+unfolding landing place
+landing-still l m t = ap (λ (z : ℤ). place (pos m +ℤ z)) (+ℤ-invr (profile l t)) ∙ ap place (+ℤ-idr (pos m))
+
+-- a step that is in the page, and one that is not, by where it lands
+module _ (l : Line) (H W M m s : ℕ) where
+  pub step-in : inPage l H W M m s ≡ true → StepIn l H W M m s
+  unfolding inPage within
+  step-in e = go (landing l m (stepOf l M) s) refl e
+    where
+      go : (o : Option ℕ) → landing l m (stepOf l M) s ≡ o → ltb (majorAt l M s) H && within o W ≡ true → StepIn l H W M m s
+      go none f i = absurd (false≢true (and-eq-true-iff (ltb (majorAt l M s) H) false .0 i .1))
+      go (some n) f i =
+          let both = and-eq-true-iff (ltb (majorAt l M s) H) (ltb n W) .0 i in
+          record { long = ltb-true _ _ (both .0); at = n; lands = f; fits = ltb-true _ _ (both .1) }
+
+  pub landed-on-page : (m′ : ℕ) → inPage l H W M m s ≡ true → landing l m (stepOf l M) s ≡ some m′ → (majorAt l M s < H) × (m′ < W)
+  landed-on-page m′ e there =
+      let found = step-in e in
+      let same : found .at ≡ m′ = Option·some-injective (found .at) m′ (sym (found .lands) ∙ there) in
+      (found .long, omega (arith, found .fits))
+
+  pub landed-in-page : (m′ : ℕ) → landing l m (stepOf l M) s ≡ some m′ → majorAt l M s < H → m′ < W → inPage l H W M m s ≡ true
+  unfolding inPage within
+  landed-in-page m′ there long fits =
+      ap (λ (o : Option ℕ). ltb (majorAt l M s) H && within o W) there ∙ ap₂ _&&_ (lt-ltb _ _ long) (lt-ltb _ _ fits)
+
+  pub out-of-page : inPage l H W M m s ≡ false → (P : Option ℕ → Type 0) → P none
+      → ((m′ : ℕ) → (H ≤ majorAt l M s) ⊎ (W ≤ m′) → P (some m′)) → P (landing l m (stepOf l M) s)
+  out-of-page e P nowhere beside = go (landing l m (stepOf l M) s) refl
+    where
+      go : (o : Option ℕ) → landing l m (stepOf l M) s ≡ o → P o
+      go none f = nowhere
+      go (some n) f =
+          by-cases
+          (decLt (majorAt l M s) H)
+          (λ h.
+          by-cases
+          (decLt n W)
+          (λ k. absurd (false≢true (sym e ∙ landed-in-page n f h k)))
+          (λ k. beside n (inr (omega arith))))
+          (λ h. beside n (inl (omega arith)))
+
 module _ (l : Line) (h : Sound l) (H W M m s : ℕ) (k : m < W) where
   pub in-page : inPage l H W M m s ≡ ltb (majorAt l M s) H && leb (drift l (stepOf l M)) (mirrored (falls l) W m + drift l s) && ltb (mirrored (falls l) W m + drift l s) (W + drift l (stepOf l M))
   unfolding inPage
@@ -101,8 +141,8 @@ module _ (l : Line) (h : Sound l) (H W M m s : ℕ) (k : m < W) where
 
   pub inside : inPage l H W M m s ≡ true → Inside l H W M (mirrored (falls l) W m) s
   inside e =
-      let last = and-true _ _ (sym in-page ∙ e) in
-      let two = and-true _ _ (last .0) in
+      let last = and-eq-true-iff _ _ .0 (sym in-page ∙ e) in
+      let two = and-eq-true-iff _ _ .0 (last .0) in
       record { long = ltb-true _ _ (two .0); low = leb-true _ _ (two .1); high = ltb-true _ _ (last .1) }
 
   pub inside-in-page : Inside l H W M (mirrored (falls l) W m) s → inPage l H W M m s ≡ true

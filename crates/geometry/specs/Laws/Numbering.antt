@@ -1,7 +1,7 @@
 -- A line's steps in the page are consecutive, and each of its pixels counts the same ones: proofs for the laws in Laws.
 -- Assumes nothing.
 use mathlib.Core.Path.{_≡_, refl, sym, ap, ap₂, _∙_}
-use mathlib.Core.Bool.{Bool, true, false, not, cond, _&&_, false≢true}
+use mathlib.Core.Bool.{Bool, true, false, not, cond, _&&_, false≢true, and-eq-true-iff}
 use mathlib.Core.Logic.{by-cases}
 use mathlib.Core.Option.{some}
 use Prim.Native.Nat.{ℕ, suc, _+_, _*_, _-_, _%_, _≤_, _<_}
@@ -13,10 +13,10 @@ use lib.Dec.{ltb, leb}
 use Rattle.geometry.specs.Vector.{majorOf}
 use Rattle.geometry.specs.Line.{period, landing, stepOf, majorAt}
 use Rattle.geometry.specs.Number.{inPage, behind, ahead}
-use Rattle.geometry.specs.Drift.{Sound, Inside, falls, drift, mirrored, first, reach}
+use Rattle.geometry.specs.Drift.{Sound, Inside, First, falls, drift, mirrored, first, reach}
 use Rattle.geometry.specs.Laws.Rows.{drift-rises}
-use Rattle.geometry.specs.Laws.Normal.{in-page, inside, inside-in-page, lands, same-leb, and-true}
-use Rattle.geometry.specs.Laws.Counting.{First, first-is-first, first-unique, Run, count-run}
+use Rattle.geometry.specs.Laws.Normal.{in-page, inside, inside-in-page, lands, same-leb}
+use Rattle.geometry.specs.Laws.Counting.{first-is-first, first-unique, Run, count-run}
 use Rattle.geometry.specs.declared.Line.{Line}
 
 -- what is not true is false
@@ -41,7 +41,8 @@ same-tests long W a b c x y e =
 covers : (t b a s b′ a′ : ℕ) → ((r : ℕ) → leb t (r + b) && leb r (t + a) ≡ leb s (r + b′) && leb r (s + a′))
     → (r : ℕ) → t ≤ r + b → r ≤ t + a → (s ≤ r + b′) × (r ≤ s + a′)
 covers t b a s b′ a′ same r low high =
-    let both = and-true (leb s (r + b′)) (leb r (s + a′)) (sym (same r) ∙ ap₂ _&&_ (le-leb t (r + b) low) (le-leb r (t + a) high)) in
+    let tests = sym (same r) ∙ ap₂ _&&_ (le-leb t (r + b) low) (le-leb r (t + a) high) in
+    let both = and-eq-true-iff (leb s (r + b′)) (leb r (s + a′)) .0 tests in
     (leb-true s (r + b′) (both .0), leb-true r (s + a′) (both .1))
 
 same-ends : (t b a s b′ a′ : ℕ) → b ≤ t → b′ ≤ s → ((r : ℕ) → leb t (r + b) && leb r (t + a) ≡ leb s (r + b′) && leb r (s + a′))
@@ -81,9 +82,13 @@ module _ (l : Line) (h : Sound l) where
   unfolding majorAt stepOf
   major-at-step M = mod-add-div' M (period l)
 
+  pub step-at : (u s : ℕ) → u < period l → stepOf l (u + s * period l) ≡ s
+  unfolding stepOf
+  step-at u s small = add-mul-div-right u s period-forward ∙ ap (λ (n : ℕ). n + s) (div-eq-of-lt small) ∙ zero-add s
+
   pub step-of-major : (M s : ℕ) → stepOf l (majorAt l M s) ≡ s
-  unfolding majorAt stepOf
-  step-of-major M s = add-mul-div-right (M % period l) s period-forward ∙ ap (λ (n : ℕ). n + s) (div-eq-of-lt (mod-lt M period-forward)) ∙ zero-add s
+  unfolding majorAt
+  step-of-major M s = step-at (M % period l) s (mod-lt M period-forward)
 
   pub major-of-major : (M s r : ℕ) → majorAt l (majorAt l M s) r ≡ majorAt l M r
   unfolding majorAt
@@ -221,8 +226,12 @@ module _ (l : Line) (h : Sound l) where
 
     pub ahead-is : (s : ℕ) → stepOf l M ≤ s → inPage l H W M m s ≡ true → inPage l H W M m (suc s) ≡ false → s ≡ stepOf l M + ahead l H W M m
     ahead-is s k e f =
-        let here : s ≤ stepOf l M + ahead l H W M m = leb-true _ _ (and-true (leb (stepOf l M) (s + behind l H W M m)) (leb s (stepOf l M + ahead l H W M m)) (sym (consecutive s) ∙ e) .1) in
-        by-cases (decLe (suc s) (stepOf l M + ahead l H W M m)) (λ i. absurd (false≢true (sym f ∙ within-steps (suc s) (omega arith) i))) (λ i. omega arith)
+        let both = and-eq-true-iff (leb (stepOf l M) (s + behind l H W M m)) _ .0 (sym (consecutive s) ∙ e) in
+        let here : s ≤ stepOf l M + ahead l H W M m = leb-true _ _ (both .1) in
+        by-cases
+        (decLe (suc s) (stepOf l M + ahead l H W M m))
+        (λ i. absurd (false≢true (sym f ∙ within-steps (suc s) (omega arith) i)))
+        (λ i. omega arith)
 
     pub behind-low : behind l H W M m ≤ stepOf l M
     behind-low = omega (arith, entry-behind)
