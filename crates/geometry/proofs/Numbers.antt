@@ -12,11 +12,13 @@ use Rattle.geometry.specs.Number.{inPage, behind, ahead}
 use Rattle.geometry.specs.Drift.{Sound, Inside, falls, drift, mirrored, reach}
 use Rattle.geometry.specs.Tables.{OnPage, OnLine, Entries, Walks, LastStep}
 use Rattle.geometry.specs.Laws.Numbering.{untrue}
-use Rattle.geometry.specs.Laws.{drift-low, step-low, drift-rises, mirrored-below, major-at-step, major-beyond, period-forward, inside, inside-in-page, behind-reach-of, reach-by, ahead-is, major-near}
+use Rattle.geometry.specs.Laws.{drift-low, step-low, drift-rises, mirrored-below, major-at-step, major-beyond}
+use Rattle.geometry.specs.Laws.{period-forward, inside, inside-in-page, behind-reach-of, reach-by, ahead-is}
+use Rattle.geometry.specs.Laws.{major-near}
 use Rattle.geometry.specs.declared.Line.{Line}
 
--- A pixel at (M, m) of a page with the sides H and W, on a line whose profile is tabled for the whole side. The code has
--- computed its step t and its place x in normal form.
+-- A pixel at (M, m) of a page with the sides H and W, on a line whose profile is tabled for the whole side. The code
+-- has computed its step t and its place x in normal form.
 module _ {l : Line} {H W M m : ℕ} {profile : List ℕ} (o : OnLine l H W M m profile) (t : ℕ) (et : t ≡ stepOf l M) where
   h : Sound l
   h = o .allowed .sound

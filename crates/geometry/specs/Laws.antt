@@ -1,8 +1,8 @@
--- The laws of lines: all that a layer above may use, with every definition of Vector, Line, Number and Drift left shut. None
--- of them shows what D is or how a number on a line is found, so the rule for ties in D and the way the tables are computed
--- can change below them. In each, t = stepOf l M is the step at which a pixel (M, m) stands on its line, x = mirrored (falls l)
--- W m its place on the minor axis in normal form, H and W are the page's sides on the major and the minor axis.
--- Only the statements are to be read. Behind them stand their proofs, in Laws/.
+-- The laws of lines: all that a layer above may use, with every definition of Vector, Line, Number and Drift left shut.
+-- None of them shows what D is or how a number on a line is found, so the rule for ties in D and the way the tables are
+-- computed can change below them. In each, t = stepOf l M is the step at which a pixel (M, m) stands on its line, x =
+-- mirrored (falls l) W m its place on the minor axis in normal form, H and W are the page's sides on the major and the
+-- minor axis. Only the statements are to be read. Behind them stand their proofs, in Laws/.
 -- Assumes nothing.
 pub mod Counting
 pub mod Floor
@@ -208,7 +208,8 @@ pub mirrored-none : (W : ℕ) → mirrored false W ≡ (λ (m : ℕ). m)
 unfolding mirrored
 mirrored-none W = refl
 
--- a step is in the page if it is on the major side and its place in normal form, x + drift s - drift t, is on the minor one
+-- a step is in the page if it is on the major side and its place in normal form, x + drift s - drift t, is on the minor
+-- one
 pub in-page : (l : Line) → Sound l → (H W M m s : ℕ) → m < W
     → inPage l H W M m s
     ≡ ltb (majorAt l M s) H
@@ -267,8 +268,8 @@ pub landed-in-page : (l : Line) (H W M m s m′ : ℕ) → landing l m (stepOf l
     → majorAt l M s < H → m′ < W → inPage l H W M m s ≡ true
 landed-in-page l H W M m s m′ there long fits = normal.landed-in-page l H W M m s m′ there long fits
 
--- a step that is not in the page lands on no place, or on a place that is off the page on the major or on the minor axis: so
--- what holds of these two holds of where it lands
+-- a step that is not in the page lands on no place, or on a place that is off the page on the major or on the minor
+-- axis: so what holds of these two holds of where it lands
 pub out-of-page : (l : Line) (H W M m s : ℕ) → inPage l H W M m s ≡ false → (P : Option ℕ → Type 0)
     → P none → ((m′ : ℕ) → (H ≤ majorAt l M s) ⊎ (W ≤ m′) → P (some m′)) → P (landing l m (stepOf l M) s)
 out-of-page l H W M m s e P nowhere beside = normal.out-of-page l H W M m s e P nowhere beside

@@ -1,5 +1,5 @@
--- To read: Vector, Line, Number and Drift (definitions), Tables (what contracts speak of), Worked (values), Laws (statements).
--- Behind the laws stand their proofs, in Laws/.
+-- To read: Vector, Line, Number and Drift (definitions), Tables (what contracts speak of), Worked (values), Laws
+-- (statements). Behind the laws stand their proofs, in Laws/.
 pub mod Vector
 pub mod Line
 pub mod Number

@@ -14,7 +14,8 @@ shallow dx dy = leZ (pos 1) dx && leZ (pos (natAbs dy)) dx
 unfoldable pub steep : ℤ → ℤ → Bool
 steep dx dy = leZ (pos 1) dy && ltZ (pos (natAbs dx)) dy
 
--- What each of them says, as facts: the component along the major axis is positive, and the other is no larger, or smaller.
+-- What each of them says, as facts: the component along the major axis is positive, and the other is no larger, or
+-- smaller.
 pub record Shallow (dx dy : ℤ) : Type 0 where
   pub forward : dx ≡ pos (natAbs dx)
   pub least : 1 ≤ natAbs dx
@@ -25,8 +26,9 @@ pub record Steep (dx dy : ℤ) : Type 0 where
   pub least : 1 ≤ natAbs dy
   pub slope : natAbs dx < natAbs dy
 
--- Along the major axis each step goes forward: the columns of a shallow vector, the rows of a steep one ("Steep: the same
--- with columns and rows, dx and dy exchanged"). Of an allowed vector the major component is positive, so its size is taken.
+-- Along the major axis each step goes forward: the columns of a shallow vector, the rows of a steep one ("Steep: the
+-- same with columns and rows, dx and dy exchanged"). Of an allowed vector the major component is positive, so its size
+-- is taken.
 unfoldable pub majorOf : ℤ → ℤ → ℕ
 majorOf dx dy = cond (steep dx dy) (natAbs dy) (natAbs dx)
 

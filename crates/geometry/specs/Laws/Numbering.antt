@@ -5,7 +5,8 @@ use mathlib.Core.Bool.{Bool, true, false, not, cond, _&&_, false≢true, and-eq-
 use mathlib.Core.Logic.{by-cases}
 use mathlib.Core.Option.{some}
 use Prim.Native.Nat.{ℕ, suc, _+_, _*_, _-_, _%_, _≤_, _<_}
-use native.Mathlib.Nat.{mod-lt, mod-add-div', mul-le-mul-left, mul-le-mul-right, add-mul-div-right, add-mul-mod-self-right, div-eq-of-lt, mod-mod, zero-add}
+use native.Mathlib.Nat.{mod-lt, mod-add-div', mul-le-mul-left, mul-le-mul-right, add-mul-div-right}
+use native.Mathlib.Nat.{add-mul-mod-self-right, div-eq-of-lt, mod-mod, zero-add}
 use native.Mathlib.Decide.{decLe, decLt}
 use native.Mathlib.Omega.{arith}
 use borrow.Author.Tests.{leb-true, leb-false, le-leb, lt-leb, not-true, not-false}
@@ -29,7 +30,8 @@ unfolding mirrored
 mirrored-below true W m h = omega arith
 mirrored-below false W m h = h
 
--- whether a third step is in the page is the same question at either of two places of one line, x at drift a and y at drift b
+-- whether a third step is in the page is the same question at either of two places of one line, x at drift a and y at
+-- drift b
 same-tests : (long : Bool) (W a b c x y : ℕ) → y + a ≡ x + b → long && leb b (y + c) && ltb (y + c) (W + b) ≡ long && leb a (x + c) && ltb (x + c) (W + a)
 same-tests long W a b c x y e =
     ap₂

@@ -4,7 +4,8 @@ use mathlib.Core.Path.{_≡_, refl, sym, ap, ap₂, _∙_}
 use mathlib.Core.Bool.{Bool, true, false, not, cond}
 use mathlib.Core.Logic.{by-cases}
 use Prim.Native.Nat.{ℕ, zero, suc, _+_, _*_, _-_, _/_, _≤_, _<_}
-use native.Mathlib.Nat.{sub-zero, le-trans, mul-le-mul-left, mul-le-mul-right, div-eq-of-lt, add-div-right, div-mul-le-self, le-div-iff-mul-le, sub-self, zero-mul, zero-add, suc-add, le-of-eq}
+use native.Mathlib.Nat.{sub-zero, le-trans, mul-le-mul-left, mul-le-mul-right, div-eq-of-lt, add-div-right}
+use native.Mathlib.Nat.{div-mul-le-self, le-div-iff-mul-le, sub-self, zero-mul, zero-add, suc-add, le-of-eq}
 use native.Mathlib.Numerals.{add-one}
 use native.Mathlib.Decide.{decLe}
 use native.Mathlib.Omega.{arith}

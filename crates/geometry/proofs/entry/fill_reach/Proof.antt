@@ -1,4 +1,5 @@
--- `entry::fill_reach` meets its contract. The invariant: the entries below v are right, and no step below s has drifted v places.
+-- `entry::fill_reach` meets its contract. The invariant: the entries below v are right, and no step below s has drifted
+-- v places.
 -- Assumes nothing.
 use mathlib.Core.Path.{_≡_, refl}
 use Prim.Native.Nat.{ℕ, _-_, _≤_, _<_}

@@ -11,7 +11,8 @@ use Rattle.geometry.specs.Line.{shift}
 use Rattle.geometry.specs.Tables.{Slight}
 use Rattle.geometry.proofs.Bits.{back, near}
 use Rattle.geometry.proofs.Vectors.{returned}
-use Rattle.geometry.proofs.Profiles.{along, minor-back, minor-low, slight, shift-near, drift-periodic, drift-connected}
+use Rattle.geometry.proofs.Profiles.{along, minor-back, minor-low, slight, shift-near, drift-periodic}
+use Rattle.geometry.proofs.Profiles.{drift-connected}
 use Rattle.geometry.proofs.profile.drift_at.Statement.{statement}
 use Rattle.geometry.proofs.profile.drift_at.Tie as tie
 

@@ -1,4 +1,5 @@
--- `profile::fill_profile` meets its contract. The invariant: the entries below t are right, and the table keeps its length.
+-- `profile::fill_profile` meets its contract. The invariant: the entries below t are right, and the table keeps its
+-- length.
 -- Assumes nothing.
 use mathlib.Core.Path.{_≡_}
 use Prim.Native.Nat.{ℕ, _-_, _≤_, _<_}

@@ -1,6 +1,7 @@
 -- `profile::nearest_row` meets its contract.
 -- Assumes nothing.
-use Rattle.geometry.proofs.Profiles.{major-fits, column-fits, twice-asks, slope-asks, sum-asks, divisor-asks, divisor-forward, row-is}
+use Rattle.geometry.proofs.Profiles.{major-fits, column-fits, twice-asks, slope-asks, sum-asks, divisor-asks}
+use Rattle.geometry.proofs.Profiles.{divisor-forward, row-is}
 use Rattle.geometry.proofs.profile.nearest_row.Statement.{statement}
 use Rattle.geometry.proofs.profile.nearest_row.Tie as tie
 
