@@ -57,20 +57,20 @@ pageFrom l w h r (suc n) = rowOf l w h r 0 w ∷ pageFrom l w h (suc r) n
 falling : pageFrom record { periodic = false; dx = pos 3; dy = negsuc 1; phase = 1 } 4 3 0 3
     ≡ (1 ∷ 10 ∷ 20 ∷ 30 ∷ []) ∷ (2 ∷ 11 ∷ 21 ∷ 10 ∷ []) ∷ (3 ∷ 12 ∷ 1 ∷ 0 ∷ []) ∷ []
 unfolding
-  shallow steep majorOf minorOf D floorDiv shift period profile place landing stepOf majorAt within inPage count
-  behind ahead
+    shallow steep majorOf minorOf D floorDiv shift period profile place landing stepOf majorAt within inPage count
+    behind ahead
 falling = refl
 
 steep-falling : pageFrom record { periodic = false; dx = negsuc 0; dy = pos 2; phase = 0 } 3 4 0 4
     ≡ (1 ∷ 3 ∷ 3 ∷ []) ∷ (10 ∷ 12 ∷ 12 ∷ []) ∷ (21 ∷ 21 ∷ 1 ∷ []) ∷ (30 ∷ 30 ∷ 10 ∷ []) ∷ []
 unfolding
-  shallow steep majorOf minorOf D floorDiv shift period profile place landing stepOf majorAt within inPage count
-  behind ahead
+    shallow steep majorOf minorOf D floorDiv shift period profile place landing stepOf majorAt within inPage count
+    behind ahead
 steep-falling = refl
 
 periodic-rising : pageFrom record { periodic = true; dx = pos 1; dy = pos 2; phase = 0 } 3 5 0 5
     ≡ (2 ∷ 1 ∷ 0 ∷ []) ∷ (1 ∷ 1 ∷ 0 ∷ []) ∷ (1 ∷ 11 ∷ 10 ∷ []) ∷ (0 ∷ 10 ∷ 10 ∷ []) ∷ (0 ∷ 10 ∷ 20 ∷ []) ∷ []
 unfolding
-  shallow steep majorOf minorOf D floorDiv shift period profile place landing stepOf majorAt within inPage count
-  behind ahead
+    shallow steep majorOf minorOf D floorDiv shift period profile place landing stepOf majorAt within inPage count
+    behind ahead
 periodic-rising = refl

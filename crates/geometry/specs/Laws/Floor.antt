@@ -40,4 +40,5 @@ floor-low (negsuc n) b h = record { le = reaches (suc (n / b) * b) n (omega (ari
 pub floor-high : (a : ℤ) (b : ℕ) → 1 ≤ b → a <ℤ ((floorDiv a b +ℤ pos 1) *ℤ pos b)
 unfolding floorDiv
 floor-high (pos n) b h = record { lt = lt→ltb n ((n / b + 1) * b) (omega (arith, lt-div-mul-add {a = n} h)) }
-floor-high (negsuc n) b h = rw (one-up (n / b), neg-times (n / b) b) (record { lt = stays-above n (n / b * b) (div-mul-le-self n b) })
+floor-high (negsuc n) b h =
+    rw (one-up (n / b), neg-times (n / b) b) (record { lt = stays-above n (n / b * b) (div-mul-le-self n b) })

@@ -45,8 +45,11 @@ unfolding place within
 within-placed a b W =
     by-cases
     (decLe b a)
-    (λ h. ap (λ (o : Option ℕ). within o W) (placed a b h) ∙ same-leb (suc (a - b)) W (suc a) (W + b) (λ k. omega arith) (λ k. omega arith) ∙ ap (λ (t : Bool). t && ltb a (W + b)) (sym (le-leb b a h)))
-    (λ h. ap (λ (z : ℤ). within (place z) W) (below a b (omega arith)) ∙ ap (λ (t : Bool). t && ltb a (W + b)) (sym (lt-leb b a (omega arith))))
+    (λ h. ap (λ (o : Option ℕ). within o W) (placed a b h)
+    ∙ same-leb (suc (a - b)) W (suc a) (W + b) (λ k. omega arith) (λ k. omega arith)
+    ∙ ap (λ (t : Bool). t && ltb a (W + b)) (sym (le-leb b a h)))
+    (λ h. ap (λ (z : ℤ). within (place z) W) (below a b (omega arith))
+    ∙ ap (λ (t : Bool). t && ltb a (W + b)) (sym (lt-leb b a (omega arith))))
 
 -- where a step lands, by the drifts at the step it comes from and at the step it goes to
 landed : Bool → (m before after : ℕ) → Option ℕ
@@ -57,14 +60,19 @@ unfolding landing landed
 landing-landed l h m t s = ap₂ (λ (x y : ℤ). place (pos m +ℤ (y -ℤ x))) (profile-signed l h t) (profile-signed l h s)
 
 landed-within : (falling : Bool) (long : Bool) (W m before after : ℕ) → m < W
-    → long && within (landed falling m before after) W ≡ long && leb before (mirrored falling W m + after) && ltb (mirrored falling W m + after) (W + before)
+    → long && within (landed falling m before after) W
+    ≡ long && leb before (mirrored falling W m + after) && ltb (mirrored falling W m + after) (W + before)
 unfolding landed mirrored
 landed-within true long W m before after h =
     ap (λ (t : Bool). long && t)
-    (ap (λ (z : ℤ). within (place z) W) (moved-down m after before) ∙ within-placed (m + before) after W ∙ ap₂ _&&_ (same-leb after (m + before) (suc (W - 1 - m + after)) (W + before) (λ k. omega arith) (λ k. omega arith)) (same-leb (suc (m + before)) (W + after) before (W - 1 - m + after) (λ k. omega arith) (λ k. omega arith)))
+    (ap (λ (z : ℤ). within (place z) W) (moved-down m after before) ∙ within-placed (m + before) after W
+    ∙ ap₂ _&&_
+    (same-leb after (m + before) (suc (W - 1 - m + after)) (W + before) (λ k. omega arith) (λ k. omega arith))
+    (same-leb (suc (m + before)) (W + after) before (W - 1 - m + after) (λ k. omega arith) (λ k. omega arith)))
     ∙ and-swap long (ltb (W - 1 - m + after) (W + before)) (leb before (W - 1 - m + after))
 landed-within false long W m before after h =
-    ap (λ (t : Bool). long && t) (ap (λ (z : ℤ). within (place z) W) (moved-up m after before) ∙ within-placed (m + after) before W)
+    ap (λ (t : Bool). long && t)
+    (ap (λ (z : ℤ). within (place z) W) (moved-up m after before) ∙ within-placed (m + after) before W)
     ∙ and-group long (leb before (m + after)) (ltb (m + after) (W + before))
 
 -- a place is the integer that it was read from
@@ -80,13 +88,15 @@ two-parts a r s t =
     ∙ ap (λ (z : ℤ). a +ℤ z)
     (+ℤ-comm (s -ℤ t) (r -ℤ s)
     ∙ +ℤ-assoc r (negℤ s) (s -ℤ t)
-    ∙ ap (λ (z : ℤ). r +ℤ z) (sym (+ℤ-assoc (negℤ s) s (negℤ t)) ∙ ap (λ (z : ℤ). z +ℤ negℤ t) (+ℤ-invl s) ∙ +ℤ-idl (negℤ t)))
+    ∙ ap (λ (z : ℤ). r +ℤ z)
+    (sym (+ℤ-assoc (negℤ s) s (negℤ t)) ∙ ap (λ (z : ℤ). z +ℤ negℤ t) (+ℤ-invl s) ∙ +ℤ-idl (negℤ t)))
 
 pub landing-onward : (l : Line) (m t s r m′ : ℕ) → landing l m t s ≡ some m′ → landing l m′ s r ≡ landing l m t r
 unfolding landing
 landing-onward l m t s r m′ e =
     let here : pos m +ℤ (profile l s -ℤ profile l t) ≡ pos m′ = place-some _ m′ e in
-    ap (λ (z : ℤ). place (z +ℤ (profile l r -ℤ profile l s))) (sym here) ∙ ap place (two-parts (pos m) (profile l r) (profile l s) (profile l t))
+    ap (λ (z : ℤ). place (z +ℤ (profile l r -ℤ profile l s))) (sym here)
+    ∙ ap place (two-parts (pos m) (profile l r) (profile l s) (profile l t))
 
 -- a line that has come to m at a step is at m at that step
 pub landing-still : (l : Line) (m t : ℕ) → landing l m t t ≡ some m
@@ -99,19 +109,22 @@ module _ (l : Line) (H W M m s : ℕ) where
   unfolding inPage within
   step-in e = go (landing l m (stepOf l M) s) refl e
     where
-      go : (o : Option ℕ) → landing l m (stepOf l M) s ≡ o → ltb (majorAt l M s) H && within o W ≡ true → StepIn l H W M m s
+      go : (o : Option ℕ) → landing l m (stepOf l M) s ≡ o → ltb (majorAt l M s) H && within o W ≡ true
+          → StepIn l H W M m s
       go none f i = absurd (false≢true (and-eq-true-iff (ltb (majorAt l M s) H) false .0 i .1))
       go (some n) f i =
           let both = and-eq-true-iff (ltb (majorAt l M s) H) (ltb n W) .0 i in
           record { long = ltb-true _ _ (both .0); at = n; lands = f; fits = ltb-true _ _ (both .1) }
 
-  pub landed-on-page : (m′ : ℕ) → inPage l H W M m s ≡ true → landing l m (stepOf l M) s ≡ some m′ → (majorAt l M s < H) × (m′ < W)
+  pub landed-on-page : (m′ : ℕ) → inPage l H W M m s ≡ true → landing l m (stepOf l M) s ≡ some m′
+      → (majorAt l M s < H) × (m′ < W)
   landed-on-page m′ e there =
       let found = step-in e in
       let same : found .at ≡ m′ = Option·some-injective (found .at) m′ (sym (found .lands) ∙ there) in
       (found .long, omega (arith, found .fits))
 
-  pub landed-in-page : (m′ : ℕ) → landing l m (stepOf l M) s ≡ some m′ → majorAt l M s < H → m′ < W → inPage l H W M m s ≡ true
+  pub landed-in-page : (m′ : ℕ) → landing l m (stepOf l M) s ≡ some m′ → majorAt l M s < H → m′ < W
+      → inPage l H W M m s ≡ true
   unfolding inPage within
   landed-in-page m′ there long fits =
       ap (λ (o : Option ℕ). ltb (majorAt l M s) H && within o W) there ∙ ap₂ _&&_ (lt-ltb _ _ long) (lt-ltb _ _ fits)
@@ -133,7 +146,10 @@ module _ (l : Line) (H W M m s : ℕ) where
           (λ h. beside n (inl (omega arith)))
 
 module _ (l : Line) (h : Sound l) (H W M m s : ℕ) (k : m < W) where
-  pub in-page : inPage l H W M m s ≡ ltb (majorAt l M s) H && leb (drift l (stepOf l M)) (mirrored (falls l) W m + drift l s) && ltb (mirrored (falls l) W m + drift l s) (W + drift l (stepOf l M))
+  pub in-page : inPage l H W M m s
+      ≡ ltb (majorAt l M s) H
+      && leb (drift l (stepOf l M)) (mirrored (falls l) W m + drift l s)
+      && ltb (mirrored (falls l) W m + drift l s) (W + drift l (stepOf l M))
   unfolding inPage
   in-page =
       ap (λ (o : Option ℕ). ltb (majorAt l M s) H && within o W) (landing-landed l h m (stepOf l M) s)
@@ -161,7 +177,10 @@ module _ (l : Line) (h : Sound l) (H W M m s : ℕ) (k : m < W) where
           let high : W - 1 - m + drift l s < W + drift l t = rw f at (i .high) in
           record {
             at = m + drift l t - drift l s;
-            lands = landing-landed l h m t s ∙ rw f (ap place (moved-down m (drift l s) (drift l t)) ∙ placed (m + drift l t) (drift l s) (omega arith));
+            lands =
+                landing-landed l h m t s
+                ∙ rw f (ap place (moved-down m (drift l s) (drift l t))
+                ∙ placed (m + drift l t) (drift l s) (omega arith));
             fits = omega arith;
             moved = rw f (omega arith);
           }
@@ -170,7 +189,10 @@ module _ (l : Line) (h : Sound l) (H W M m s : ℕ) (k : m < W) where
           let high : m + drift l s < W + drift l t = rw f at (i .high) in
           record {
             at = m + drift l s - drift l t;
-            lands = landing-landed l h m t s ∙ rw f (ap place (moved-up m (drift l s) (drift l t)) ∙ placed (m + drift l s) (drift l t) (omega arith));
+            lands =
+                landing-landed l h m t s
+                ∙ rw f (ap place (moved-up m (drift l s) (drift l t))
+                ∙ placed (m + drift l s) (drift l t) (omega arith));
             fits = omega arith;
             moved = rw f (omega arith);
           }
