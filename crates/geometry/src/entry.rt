@@ -19,9 +19,9 @@ fn climb(profile: &[usize], v: usize, from: usize) -> usize
     s
 }
 
-// Fills a table with the first step that has drifted v places, for each v from 0 on: the profile's first entry that is at
-// least v, and its length where none is. What has not drifted v places has not drifted more, so each climb goes on where the
-// one before ended: the two tables are walked once.
+// Fills a table with the first step that has drifted v places, for each v from 0 on: the profile's first entry that is
+// at least v, and its length where none is. What has not drifted v places has not drifted more, so each climb goes on
+// where the one before ended: the two tables are walked once.
 pub fn fill_reach(profile: &[usize], reach: &mut [usize])
     ensures same_length { λ _. ⌜ length (now (reach .exit)) ≡ length (now (reach .entry)) ⌝ }
     ensures entered { λ _. ⌜ FirstEntries (now (profile .entry)) (now (reach .exit)) ⌝ }

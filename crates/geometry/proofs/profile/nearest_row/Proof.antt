@@ -29,7 +29,8 @@ floor-div-requires c κs = divisor-forward (c .args .major) (c .args .minor) (c 
 returns : tie.Need-returns
 returns c =
     let start = c .before in
-    row-is (start .args .major) (start .args .minor) (start .args .c) (start .pre) (c .floor-div .result) (c .floor-div .ensures)
+    row-is (start .args .major) (start .args .minor) (start .args .c) (start .pre) (c .floor-div .result)
+    (c .floor-div .ensures)
 
 pub nearest-row-spec : {M : Type 1} → statement M
 nearest-row-spec =
