@@ -30,7 +30,7 @@ back₂ f a b fa fb = ap₂ f (toZ-ofZ w64 a fa) (toZ-ofZ w64 b fb)
 pub fits₂ : (f : ℤ → ℤ → ℤ) (a b : ℤ) → SFits w64 a → SFits w64 b → SFits w64 (f a b) → SFits w64 (f (back a) (back b))
 fits₂ f a b fa fb h = subst (SFits w64) (sym (back₂ f a b fa fb)) h
 
--- and its result read back
+-- the result of an operation on numbers read back, read back itself
 pub back-of : (f : ℤ → ℤ → ℤ) (a b : ℤ) → SFits w64 a → SFits w64 b → SFits w64 (f a b)
     → back (f (back a) (back b)) ≡ f a b
 back-of f a b fa fb h = toZ-ofZ w64 (f (back a) (back b)) (fits₂ f a b fa fb h) ∙ back₂ f a b fa fb

@@ -27,7 +27,7 @@ before-multiple n b h e = go (suc n / b) refl
         let here : n / b ≡ j = div-eq-of-lt-le b (omega arith) (omega arith) in
         f ∙ ap suc (sym here)
 
--- and no other where b does not divide it
+-- the quotient of the number before suc n is the same where b does not divide suc n
 between-multiples : (n b r : ℕ) → 1 ≤ b → suc n % b ≡ suc r → n / b ≡ suc n / b
 between-multiples n b r h e =
     let whole : suc n / b * b + suc r ≡ suc n = rw e at (div-add-mod' (suc n) b) in

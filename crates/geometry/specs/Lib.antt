@@ -1,5 +1,4 @@
--- To read: Vector, Line, Number and Drift (definitions), Tables (what contracts speak of), Worked (values), Laws
--- (statements). Behind the laws stand their proofs, in Laws/.
+-- To be read: Vector, Line, Number, Drift, Tables (definitions), Worked (values), Laws (statements; proofs in Laws/).
 pub mod Vector
 pub mod Line
 pub mod Number
