@@ -11,12 +11,14 @@ use Rattle.geometry.specs.Line.{period, stepOf, majorAt}
 use Rattle.geometry.specs.Number.{inPage, behind, ahead}
 use Rattle.geometry.specs.Drift.{Sound, Inside, falls, drift, mirrored, reach}
 use Rattle.geometry.specs.Tables.{OnPage, OnLine, Entries, Walks, LastStep}
-use Rattle.geometry.specs.Numbering.{untrue}
-use Rattle.geometry.specs.Laws.{drift-low, step-low, drift-rises, mirrored-below, major-at-step, major-beyond, period-forward, inside, inside-in-page, behind-reach-of, reach-by, ahead-is, major-near}
+use Rattle.geometry.specs.Laws.Numbering.{untrue}
+use Rattle.geometry.specs.Laws.{drift-low, step-low, drift-rises, mirrored-below, major-at-step, major-beyond}
+use Rattle.geometry.specs.Laws.{period-forward, inside, inside-in-page, behind-reach-of, reach-by, ahead-is}
+use Rattle.geometry.specs.Laws.{major-near}
 use Rattle.geometry.specs.declared.Line.{Line}
 
--- A pixel at (M, m) of a page with the sides H and W, on a line whose profile is tabled for the whole side. The code has
--- computed its step t and its place x in normal form.
+-- A pixel at (M, m) of a page with the sides H and W, on a line whose profile is tabled for the whole side. The code
+-- has computed its step t and its place x in normal form.
 module _ {l : Line} {H W M m : ℕ} {profile : List ℕ} (o : OnLine l H W M m profile) (t : ℕ) (et : t ≡ stepOf l M) where
   h : Sound l
   h = o .allowed .sound
@@ -41,7 +43,8 @@ module _ {l : Line} {H W M m : ℕ} {profile : List ℕ} (o : OnLine l H W M m p
     place-below = omega (arith, ex, mirrored-below (falls l) W m (on .m-below))
 
     -- how many pixels come before it, from the reach of what its line was missing
-    module _ {table : List ℕ} (entries : Entries l H (length profile) table) (v : ℕ) (ev : v ≡ getD profile t 0 - x) where
+    module _ {table : List ℕ} (entries : Entries l H (length profile) table)
+        (v : ℕ) (ev : v ≡ getD profile t 0 - x) where
       pub missing-tabled : v < length table
       missing-tabled = omega (arith, drift-near, entries .room)
 
@@ -56,7 +59,8 @@ module _ {l : Line} {H W M m : ℕ} {profile : List ℕ} (o : OnLine l H W M m p
 
       pub behind-is : t - getD table v 0 ≡ behind l H W M m
       behind-is =
-          let exact : v ≡ drift l (stepOf l M) - mirrored (falls l) W m = ev ∙ ap₂ (λ (d y : ℕ). d - y) (drift-here ∙ drift-own) ex in
+          let exact : v ≡ drift l (stepOf l M) - mirrored (falls l) W m =
+          ev ∙ ap₂ (λ (d y : ℕ). d - y) (drift-here ∙ drift-own) ex in
           ap₂ (λ (s r : ℕ). s - r) et (entered ∙ ap (λ (u : ℕ). reach l u (length profile)) exact)
           ∙ sym (behind-reach-of l h H W M m (length profile) (on .M-below) (on .m-below) (omega (arith, step-tabled)))
 
@@ -106,9 +110,19 @@ module _ {l : Line} {H W M m : ℕ} {profile : List ℕ} (o : OnLine l H W M m p
             let there : Inside l H W M (mirrored (falls l) W m) (suc s) = inside l h H W M m (suc s) (on .m-below) e in
             let long : M % p + suc s * p < H = omega (arith, place-is (suc s), there .long) in
             let late : suc s < length profile = omega (arith, major-beyond l h M (suc s), there .long, o .room) in
-            omega (arith, ex, place-below, drift-own, drift-here, o .tabled .entry (suc s) late, there .high, last .leaves long)
+            omega (
+              arith,
+              ex,
+              place-below,
+              drift-own,
+              drift-here,
+              o .tabled .entry (suc s) late,
+              there .high,
+              last .leaves long,
+            )
 
         pub ahead-is-left : s - t ≡ ahead l H W M m
         ahead-is-left =
-            let end : s ≡ stepOf l M + ahead l H W M m = ahead-is l h H W M m (on .M-below) (on .m-below) s (omega (arith, last .on)) stays (untrue _ leaves) in
+            let end : s ≡ stepOf l M + ahead l H W M m =
+            ahead-is l h H W M m (on .M-below) (on .m-below) s (omega (arith, last .on)) stays (untrue _ leaves) in
             omega arith

@@ -17,7 +17,7 @@ use Rattle.geometry.specs.Vector.{majorOf, minorOf}
 use Rattle.geometry.specs.Line.{floorDiv, D, shift, profile}
 use Rattle.geometry.specs.Drift.{Allowed, drift}
 use Rattle.geometry.specs.Tables.{Slight}
-use Rattle.geometry.specs.Integers.{below, above}
+use Rattle.geometry.specs.Laws.Integers.{below, above}
 use Rattle.geometry.specs.Laws.{major-near}
 use Rattle.geometry.specs.declared.Line.{Line}
 use Rattle.geometry.proofs.Bits.{back, near, back-of, fits₂, floor-small}
@@ -125,7 +125,8 @@ module _ (major : ℕ) (minor : ℤ) (c : ℕ) (h : Slight major minor c) where
   pub sum-asks : SFits w64 (back (back (pos 2 *ℤ back (pos c)) *ℤ back minor) +ℤ back (pos major))
   sum-asks = subst (SFits w64) (sym (ap₂ _+ℤ_ slope-back major-back)) sum-fits
 
-  sum-back : back (back (back (pos 2 *ℤ back (pos c)) *ℤ back minor) +ℤ back (pos major)) ≡ pos (2 * c) *ℤ minor +ℤ pos major
+  sum-back : back (back (back (pos 2 *ℤ back (pos c)) *ℤ back minor) +ℤ back (pos major))
+      ≡ pos (2 * c) *ℤ minor +ℤ pos major
   sum-back = toZ-ofZ w64 _ sum-asks ∙ ap₂ _+ℤ_ slope-back major-back
 
   divisor-fits : SFits w64 (pos (2 * major))
@@ -138,10 +139,16 @@ module _ (major : ℕ) (minor : ℤ) (c : ℕ) (h : Slight major minor c) where
   divisor-back = back-of _*ℤ_ (pos 2) (pos major) (near (pos 2) (omega arith)) major-fits divisor-fits
 
   pub divisor-forward : pos 1 ≤ℤ back (pos 2 *ℤ back (pos major))
-  divisor-forward = subst (λ (z : ℤ). pos 1 ≤ℤ z) (sym divisor-back) (record { le = le→leb 1 (2 * major) (omega (arith, h .forward)) })
+  divisor-forward =
+      subst (λ (z : ℤ). pos 1 ≤ℤ z) (sym divisor-back)
+      (record { le = le→leb 1 (2 * major) (omega (arith, h .forward)) })
 
   -- the quotient of what was read back is D
-  pub row-is : (r : ℤ) → r ≡ floorDiv (back (back (back (pos 2 *ℤ back (pos c)) *ℤ back minor) +ℤ back (pos major))) (natAbs (back (pos 2 *ℤ back (pos major)))) → back r ≡ D major minor c
+  pub row-is : (r : ℤ)
+      → r
+      ≡ floorDiv (back (back (back (pos 2 *ℤ back (pos c)) *ℤ back minor) +ℤ back (pos major)))
+      (natAbs (back (pos 2 *ℤ back (pos major))))
+      → back r ≡ D major minor c
   unfolding D
   row-is r e =
       let same : r ≡ D major minor c = e ∙ ap₂ (λ (a b : ℤ). floorDiv a (natAbs b)) sum-back divisor-back in
@@ -165,7 +172,16 @@ module _ (major : ℕ) (minor : ℤ) (phase c : ℕ) (h : Slight major minor (c 
 
   pub shift-near : natAbs (shift major minor phase c) ≤ 16712192
   unfolding shift
-  shift-near = omega (arith, size-sum (D major minor (c + phase)) (negℤ (D major minor phase)), size-negated (D major minor phase), row-near major minor (c + phase) h, row-near major minor phase at-phase)
+  shift-near =
+      let row : ℤ = D major minor (c + phase) in
+      let start : ℤ = D major minor phase in
+      omega (
+        arith,
+        size-sum row (negℤ start),
+        size-negated start,
+        row-near major minor (c + phase) h,
+        row-near major minor phase at-phase,
+      )
 
   -- the difference of the two rows that the calls returned
   module _ (r q : ℤ) (er : r ≡ D major (back minor) (c + phase)) (eq : q ≡ D major (back minor) phase) where
@@ -200,15 +216,31 @@ module _ (l : Line) (h : Allowed l) where
 
   -- the minor component that a call returned, read back
   pub minor-back : (r : ℤ) → r ≡ minorOf (part (l .dx)) (part (l .dy)) → back r ≡ minorOf (l .dx) (l .dy)
-  minor-back r e = returned r (minorOf (l .dx) (l .dy)) (near (minorOf (l .dx) (l .dy)) (omega (arith, minor-low))) (e ∙ along minorOf)
+  minor-back r e =
+      returned r (minorOf (l .dx) (l .dy)) (near (minorOf (l .dx) (l .dy)) (omega (arith, minor-low)))
+      (e ∙ along minorOf)
 
   pub slight : (t : ℕ) → t ≤ 8192 → Slight (majorOf (l .dx) (l .dy)) (minorOf (l .dx) (l .dy)) (t + l .phase)
-  slight t k = record { forward = h .sound .forward; major-near = major-near l h; minor-near = minor-low; column = omega (arith, h .phase-near) }
+  slight t k =
+      record {
+        forward = h .sound .forward;
+        major-near = major-near l h;
+        minor-near = minor-low;
+        column = omega (arith, h .phase-near);
+      }
 
   pub drift-periodic : (t : ℕ) → l .periodic ≡ true → drift l t ≡ t * natAbs (minorOf (l .dx) (l .dy))
   unfolding drift profile
-  drift-periodic t e = ap (λ (b : Bool). natAbs (cond b (pos t *ℤ minorOf (l .dx) (l .dy)) (shift (majorOf (l .dx) (l .dy)) (minorOf (l .dx) (l .dy)) (l .phase) t))) e ∙ size-times t (minorOf (l .dx) (l .dy))
+  drift-periodic t e =
+      let major : ℕ = majorOf (l .dx) (l .dy) in
+      let minor : ℤ = minorOf (l .dx) (l .dy) in
+      ap (λ (b : Bool). natAbs (cond b (pos t *ℤ minor) (shift major minor (l .phase) t))) e
+      ∙ size-times t (minorOf (l .dx) (l .dy))
 
-  pub drift-connected : (t : ℕ) → l .periodic ≡ false → drift l t ≡ natAbs (shift (majorOf (l .dx) (l .dy)) (minorOf (l .dx) (l .dy)) (l .phase) t)
+  pub drift-connected : (t : ℕ) → l .periodic ≡ false
+      → drift l t ≡ natAbs (shift (majorOf (l .dx) (l .dy)) (minorOf (l .dx) (l .dy)) (l .phase) t)
   unfolding drift profile
-  drift-connected t e = ap (λ (b : Bool). natAbs (cond b (pos t *ℤ minorOf (l .dx) (l .dy)) (shift (majorOf (l .dx) (l .dy)) (minorOf (l .dx) (l .dy)) (l .phase) t))) e
+  drift-connected t e =
+      let major : ℕ = majorOf (l .dx) (l .dy) in
+      let minor : ℤ = minorOf (l .dx) (l .dy) in
+      ap (λ (b : Bool). natAbs (cond b (pos t *ℤ minor) (shift major minor (l .phase) t))) e

@@ -17,7 +17,8 @@ use Rattle.geometry.proofs.Bits.{back, near, back-of, fits₂}
 -- what `size` computes on its way
 pub record SizeSteps (z : ℤ) : Type 0 where
   pub negated-fits : ltZ (back z) (pos 0) ≡ true → SFits w64 (pos 0 -ℤ back z)
-  pub negated-casts : ltZ (back z) (pos 0) ≡ true → T (nonNeg (back (pos 0 -ℤ back z))) × Fits w64 (natAbs (back (pos 0 -ℤ back z)))
+  pub negated-casts : ltZ (back z) (pos 0) ≡ true
+      → T (nonNeg (back (pos 0 -ℤ back z))) × Fits w64 (natAbs (back (pos 0 -ℤ back z)))
   pub negated-is : ltZ (back z) (pos 0) ≡ true → natAbs (back (pos 0 -ℤ back z)) ≡ natAbs z
   pub kept-casts : ltZ (back z) (pos 0) ≡ false → T (nonNeg (back z)) × Fits w64 (natAbs (back z))
   pub kept-is : natAbs (back z) ≡ natAbs z
@@ -55,7 +56,8 @@ size-steps (negsuc n) h =
     fits = subst (SFits w64) (sym (+ℤ-idl (pos (suc n)))) (near (pos (suc n)) h)
 
     flipped : back (pos 0 -ℤ back (negsuc n)) ≡ pos (suc n)
-    flipped = back-of _-ℤ_ (pos 0) (negsuc n) (near (pos 0) (omega arith)) (near (negsuc n) h) fits ∙ +ℤ-idl (pos (suc n))
+    flipped =
+        back-of _-ℤ_ (pos 0) (negsuc n) (near (pos 0) (omega arith)) (near (negsuc n) h) fits ∙ +ℤ-idl (pos (suc n))
 
 -- what is read back from the bits of a component
 abbrev pub part : ℤ → ℤ

@@ -12,7 +12,8 @@ use Rattle.geometry.specs.Vector.{majorOf, minorOf}
 use Rattle.geometry.specs.Line.{profile, landing, stepOf, majorAt}
 use Rattle.geometry.specs.declared.Line.{Line}
 
--- what the laws assume of a line's vector: "shallow (dx at least 1, abs dy at most dx) or steep (dy at least 1, abs dx below dy)"
+-- what the laws assume of a line's vector: "shallow (dx at least 1, abs dy at most dx) or steep (dy at least 1, abs dx
+-- below dy)"
 pub record Sound (l : Line) : Type 0 where
   pub forward : 1 ≤ majorOf (l .dx) (l .dy)
   pub slope : natAbs (minorOf (l .dx) (l .dy)) ≤ majorOf (l .dx) (l .dy)
@@ -48,6 +49,13 @@ first test k (suc n) =
     let later = first test (suc k) n in
     cond (test k) k later
 
+-- what the first number is: none before it passes, and it passes itself unless it is the end
+pub record First (test : ℕ → Bool) (k n r : ℕ) : Type 0 where
+  pub from : k ≤ r
+  pub to : r ≤ k + n
+  pub before : (s : ℕ) → k ≤ s → s < r → test s ≡ false
+  pub passes : r < k + n → test r ≡ true
+
 -- the first of a line's steps 0 to n - 1 that has drifted v places, and n where none has
 unfoldable pub reach : Line → ℕ → ℕ → ℕ
 reach l v n = first (λ s. leb v (drift l s)) 0 n
@@ -57,6 +65,13 @@ pub record Inside (l : Line) (H W M x s : ℕ) : Type 0 where
   pub long : majorAt l M s < H
   pub low : drift l (stepOf l M) ≤ x + drift l s
   pub high : x + drift l s < W + drift l (stepOf l M)
+
+-- step s of the line through (M, m) is in a page of sides H and W: it lands on a place, and that place is on the page
+pub record StepIn (l : Line) (H W M m s : ℕ) : Type 0 where
+  pub long : majorAt l M s < H
+  pub at : ℕ
+  pub lands : landing l m (stepOf l M) s ≡ some at
+  pub fits : at < W
 
 -- where the line that is at m at its step t lands at its step s, in normal form
 pub record Lands (l : Line) (W m t s : ℕ) : Type 0 where

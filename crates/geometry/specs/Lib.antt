@@ -1,14 +1,8 @@
+-- To be read: Vector, Line, Number, Drift, Tables (definitions), Worked (values), Laws (statements; proofs in Laws/).
 pub mod Vector
 pub mod Line
 pub mod Number
-pub mod Worked
 pub mod Drift
-pub mod Laws
 pub mod Tables
-pub mod Slope
-pub mod Integers
-pub mod Floor
-pub mod Rows
-pub mod Normal
-pub mod Counting
-pub mod Numbering
+pub mod Worked
+pub mod Laws

@@ -1,4 +1,4 @@
--- What the code's contracts speak of: numbers small enough to compute with, a pixel of a page, and the tables of a line.
+-- What the code's contracts speak of: numbers small enough to compute with, a pixel of a page, the tables of a line.
 -- Assumes nothing.
 use mathlib.Core.Path.{_≡_}
 use mathlib.Core.List.{List}
@@ -33,6 +33,10 @@ pub record Reaches (table : List ℕ) (v k r : ℕ) : Type 0 where
 -- a table whose entry v is the first entry of a profile that is at least v
 pub record FirstEntries (profile table : List ℕ) : Type 0 where
   pub entry : (v : ℕ) → v < length table → Reaches profile v 0 (getD table v 0)
+
+-- a table that has the reaches of whichever line the profile is of
+abbrev pub ReachTables : List ℕ → List ℕ → Type 0
+ReachTables profile table = (l : Line) → ProfileTable l profile → ReachTable l (length profile) table
 
 -- a pixel of a page: "w and h 1 to 8192"
 pub record OnPage (H W M m : ℕ) : Type 0 where

@@ -1,6 +1,6 @@
--- Document 01, 'Lines': the three tables of D, and 'Easy slips': "Dividing a negative number towards zero in D". Then the numbers
--- of the pixels of three small pages, as a second program written from document 01 alone has them: a falling line with a phase,
--- a steep one that falls, and a periodic one.
+-- Document 01, 'Lines': the three tables of D, and 'Easy slips': "Dividing a negative number towards zero in D". Then
+-- the numbers of the pixels of three small pages, as a second program written from document 01 alone has them: a
+-- falling line with a phase, a steep one that falls, and a periodic one.
 -- Assumes nothing.
 use mathlib.Core.Path.{_≡_, refl}
 use mathlib.Core.Bool.{true, false, cond}
@@ -17,7 +17,8 @@ record Table : Type 0 where
   minor : ℤ
   rows : List ℤ
 
--- "D for (5, 3), columns 0 to 5: 0 1 1 2 2 3. For (3, -2), columns 0 to 3: 0 -1 -1 -2. For (2, -1), columns 0 to 3: 0 0 -1 -1."
+-- "D for (5, 3), columns 0 to 5: 0 1 1 2 2 3. For (3, -2), columns 0 to 3: 0 -1 -1 -2. For (2, -1), columns 0 to 3: 0 0
+-- -1 -1."
 abbrev tables : List Table
 tables =
     record { major = 5; minor = pos 3; rows = pos 0 ∷ pos 1 ∷ pos 1 ∷ pos 2 ∷ pos 2 ∷ pos 3 ∷ [] }
@@ -35,13 +36,15 @@ unfolding D floorDiv
 d-tables = refl
 
 -- quotients by 5 at zero and on both sides of it
-floors : map (λ (z : ℤ). floorDiv z 5) (pos 5 ∷ pos 4 ∷ pos 0 ∷ negsuc 0 ∷ negsuc 4 ∷ negsuc 5 ∷ []) ≡ pos 1 ∷ pos 0 ∷ pos 0 ∷ negsuc 0 ∷ negsuc 0 ∷ negsuc 1 ∷ []
+floors : map (λ (z : ℤ). floorDiv z 5) (pos 5 ∷ pos 4 ∷ pos 0 ∷ negsuc 0 ∷ negsuc 4 ∷ negsuc 5 ∷ [])
+    ≡ pos 1 ∷ pos 0 ∷ pos 0 ∷ negsuc 0 ∷ negsuc 0 ∷ negsuc 1 ∷ []
 unfolding floorDiv
 floors = refl
 
 -- behind and ahead of the pixel at column c and row r of a page w wide and h high, as one number of two digits
 abbrev numbersAt : Line → ℕ → ℕ → ℕ → ℕ → ℕ
-numbersAt l w h c r = cond (steep (l .dx) (l .dy)) (10 * behind l h w r c + ahead l h w r c) (10 * behind l w h c r + ahead l w h c r)
+numbersAt l w h c r =
+    cond (steep (l .dx) (l .dy)) (10 * behind l h w r c + ahead l h w r c) (10 * behind l w h c r + ahead l w h c r)
 
 abbrev rowOf : Line → ℕ → ℕ → ℕ → ℕ → ℕ → List ℕ
 rowOf l w h r c zero = []
@@ -51,14 +54,23 @@ abbrev pageFrom : Line → ℕ → ℕ → ℕ → ℕ → List (List ℕ)
 pageFrom l w h r zero = []
 pageFrom l w h r (suc n) = rowOf l w h r 0 w ∷ pageFrom l w h (suc r) n
 
-falling : pageFrom record { periodic = false; dx = pos 3; dy = negsuc 1; phase = 1 } 4 3 0 3 ≡ (1 ∷ 10 ∷ 20 ∷ 30 ∷ []) ∷ (2 ∷ 11 ∷ 21 ∷ 10 ∷ []) ∷ (3 ∷ 12 ∷ 1 ∷ 0 ∷ []) ∷ []
-unfolding shallow steep majorOf minorOf D floorDiv shift period profile place landing stepOf majorAt within inPage count behind ahead
+falling : pageFrom record { periodic = false; dx = pos 3; dy = negsuc 1; phase = 1 } 4 3 0 3
+    ≡ (1 ∷ 10 ∷ 20 ∷ 30 ∷ []) ∷ (2 ∷ 11 ∷ 21 ∷ 10 ∷ []) ∷ (3 ∷ 12 ∷ 1 ∷ 0 ∷ []) ∷ []
+unfolding
+    shallow steep majorOf minorOf D floorDiv shift period profile place landing stepOf majorAt within inPage count
+    behind ahead
 falling = refl
 
-steep-falling : pageFrom record { periodic = false; dx = negsuc 0; dy = pos 2; phase = 0 } 3 4 0 4 ≡ (1 ∷ 3 ∷ 3 ∷ []) ∷ (10 ∷ 12 ∷ 12 ∷ []) ∷ (21 ∷ 21 ∷ 1 ∷ []) ∷ (30 ∷ 30 ∷ 10 ∷ []) ∷ []
-unfolding shallow steep majorOf minorOf D floorDiv shift period profile place landing stepOf majorAt within inPage count behind ahead
+steep-falling : pageFrom record { periodic = false; dx = negsuc 0; dy = pos 2; phase = 0 } 3 4 0 4
+    ≡ (1 ∷ 3 ∷ 3 ∷ []) ∷ (10 ∷ 12 ∷ 12 ∷ []) ∷ (21 ∷ 21 ∷ 1 ∷ []) ∷ (30 ∷ 30 ∷ 10 ∷ []) ∷ []
+unfolding
+    shallow steep majorOf minorOf D floorDiv shift period profile place landing stepOf majorAt within inPage count
+    behind ahead
 steep-falling = refl
 
-periodic-rising : pageFrom record { periodic = true; dx = pos 1; dy = pos 2; phase = 0 } 3 5 0 5 ≡ (2 ∷ 1 ∷ 0 ∷ []) ∷ (1 ∷ 1 ∷ 0 ∷ []) ∷ (1 ∷ 11 ∷ 10 ∷ []) ∷ (0 ∷ 10 ∷ 10 ∷ []) ∷ (0 ∷ 10 ∷ 20 ∷ []) ∷ []
-unfolding shallow steep majorOf minorOf D floorDiv shift period profile place landing stepOf majorAt within inPage count behind ahead
+periodic-rising : pageFrom record { periodic = true; dx = pos 1; dy = pos 2; phase = 0 } 3 5 0 5
+    ≡ (2 ∷ 1 ∷ 0 ∷ []) ∷ (1 ∷ 1 ∷ 0 ∷ []) ∷ (1 ∷ 11 ∷ 10 ∷ []) ∷ (0 ∷ 10 ∷ 10 ∷ []) ∷ (0 ∷ 10 ∷ 20 ∷ []) ∷ []
+unfolding
+    shallow steep majorOf minorOf D floorDiv shift period profile place landing stepOf majorAt within inPage count
+    behind ahead
 periodic-rising = refl

@@ -4,8 +4,8 @@ ghost use lib.IntN.{pos, natAbs};
 ghost use lib.Signed.{_≤ℤ_};
 ghost use Rattle.geometry.specs.Line.{floorDiv};
 
-// a / b rounded towards minus infinity. The language's quotient is rounded towards zero, so it is one too large exactly where
-// its remainder is below zero.
+// a / b rounded towards minus infinity. The language's quotient is rounded towards zero, so it is one too large exactly
+// where its remainder is below zero.
 pub fn floor_div(a: i64, b: i64) -> i64
     requires { ⌜ pos 1 ≤ℤ b ⌝ }
     ensures { λ r. ⌜ r ≡ floorDiv a (natAbs b) ⌝ }

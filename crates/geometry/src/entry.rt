@@ -2,8 +2,7 @@
 ghost use mathlib.Core.Path.{_≡_};
 ghost use Prim.Native.Nat.{_≤_};
 ghost use lib.ListN.{length};
-ghost use Rattle.geometry.specs.Tables.{FirstEntries, ProfileTable, ReachTable, Reaches};
-ghost use Rattle.geometry.specs.declared.Line.{Line};
+ghost use Rattle.geometry.specs.Tables.{FirstEntries, ReachTables, Reaches};
 
 // The first entry of a profile, from `from` on, that is at least v; the profile's length where none is.
 fn climb(profile: &[usize], v: usize, from: usize) -> usize
@@ -20,13 +19,13 @@ fn climb(profile: &[usize], v: usize, from: usize) -> usize
     s
 }
 
-// Fills a table with the first step that has drifted v places, for each v from 0 on: the profile's first entry that is at least
-// v, and its length where none is. What has not drifted v places has not drifted more, so each climb goes on where the one before
-// ended: the two tables are walked once.
+// Fills a table with the first step that has drifted v places, for each v from 0 on: the profile's first entry that is
+// at least v, and its length where none is. What has not drifted v places has not drifted more, so each climb goes on
+// where the one before ended: the two tables are walked once.
 pub fn fill_reach(profile: &[usize], reach: &mut [usize])
-    ensures { λ _. ⌜ length (now (reach .exit)) ≡ length (now (reach .entry)) ⌝ }
-    ensures { λ _. ⌜ FirstEntries (now (profile .entry)) (now (reach .exit)) ⌝ }
-    ensures { λ _. ⌜ ((l : Line) → ProfileTable l (now (profile .entry)) → ReachTable l (length (now (profile .entry))) (now (reach .exit))) ⌝ }
+    ensures same_length { λ _. ⌜ length (now (reach .exit)) ≡ length (now (reach .entry)) ⌝ }
+    ensures entered { λ _. ⌜ FirstEntries (now (profile .entry)) (now (reach .exit)) ⌝ }
+    ensures tabled { λ _. ⌜ ReachTables (now (profile .entry)) (now (reach .exit)) ⌝ }
 {
     let mut v: usize = 0;
     let mut s: usize = 0;

@@ -1,4 +1,5 @@
-// The number of a pixel on its line, from the line's two tables: how many pixels of the line come before it and after it.
+// The number of a pixel on its line, from the line's two tables: how many of the line's pixels come before it and how
+// many after it.
 ghost use mathlib.Core.Path.{_≡_};
 ghost use Prim.Native.Nat.{_-_};
 ghost use lib.ListN.{length};
@@ -53,7 +54,8 @@ fn last_step(profile: &[usize], limit: usize, u: usize, p: usize, t: usize, h: u
     s
 }
 
-// How many pixels of its line come after it. This one walks the line: it serves the listing and the tests.
+// How many pixels of its line come after the pixel at `major` and `minor` of a page with the sides h and w. It walks
+// the line: it serves the listing and the tests, not the filters.
 pub fn ahead_at(
     line: Line,
     profile: &[usize],

@@ -46,8 +46,8 @@ pub fn drift_at(line: Line, t: usize) -> usize
 pub fn fill_profile(line: Line, table: &mut [usize])
     requires { ⌜ Allowed line ⌝ }
     requires { ⌜ length (now table) ≤ 8193 ⌝ }
-    ensures { λ _. ⌜ length (now (table .exit)) ≡ length (now (table .entry)) ⌝ }
-    ensures { λ _. ⌜ ProfileTable line (now (table .exit)) ⌝ }
+    ensures same_length { λ _. ⌜ length (now (table .exit)) ≡ length (now (table .entry)) ⌝ }
+    ensures tabled { λ _. ⌜ ProfileTable line (now (table .exit)) ⌝ }
 {
     let mut t: usize = 0;
     while t < table.len() {

@@ -1,12 +1,12 @@
 -- What the sides and the line of a grid bound: numbers that the code computes fit, and the tables are long enough.
 -- Assumes nothing.
 use mathlib.Core.Path.{_≡_, sym, ap, _∙_}
-use Prim.Native.Nat.{ℕ, suc, _+_, _-_, _*_, _%_, _/_, _≤_, _<_}
-use native.Mathlib.Nat.{mul-le-mul-left, mul-le-mul-right, mul-one, suc-mul, div-add-mod', le-trans}
+use Prim.Native.Nat.{ℕ, suc, _+_, _-_, _*_, _≤_, _<_}
+use native.Mathlib.Nat.{mul-le-mul-left, mul-le-mul-right, mul-one, suc-mul, le-trans}
 use native.Mathlib.Omega.{arith}
-use Rattle.geometry.specs.Line.{period, stepOf}
+use Rattle.geometry.specs.Line.{period}
 use Rattle.geometry.specs.Drift.{drift, reach}
-use Rattle.geometry.specs.Laws.{period-forward, drift-bound, reach-by}
+use Rattle.geometry.specs.Laws.{period-forward, step-split, drift-bound, reach-by}
 use mathlib.Core.List.{List}
 use lib.ListN.{getD}
 use Rattle.runs.specs.Grid.{Sized, Pixel, startRow, lineName, entry}
@@ -25,13 +25,12 @@ module _ (g : Grid) (profile reaches : List ℕ) (R t x : ℕ) (at : Pixel g pro
     pub drift-read : getD profile t 0 ≡ drift (g .line) t
 
   pub row : RowPlace
-  unfolding startRow stepOf
+  unfolding startRow
   row =
       let p : ℕ = period (g .line) in
-      let same : t * g .period ≡ R / p * p = ap (λ (q : ℕ). q * g .period) (at .step) ∙ ap (λ (q : ℕ). R / p * q) (at .sized .period-is) in
-      let split : R / p * p + R % p ≡ R = div-add-mod' R p in
+      let same : t * g .period ≡ t * p = ap (λ (q : ℕ). t * q) (at .sized .period-is) in
+      let split : startRow g R + t * p ≡ R = ap (λ (q : ℕ). startRow g R + q * p) (at .step) ∙ step-split (g .line) R in
       let far : drift (g .line) t ≤ t * p = drift-bound (g .line) (at .sized .sound) t in
-      let same′ : t * p ≡ R / p * p = ap (λ (q : ℕ). q * p) (at .step) in
       let one : t * 1 ≤ t * p = mul-le-mul-left t (period-forward (g .line) (at .sized .sound)) in
       let own : t * 1 ≡ t = mul-one t in
       let below : t < g .height = omega (arith, at .row) in

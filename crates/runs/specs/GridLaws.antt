@@ -4,16 +4,15 @@
 use mathlib.Core.Path.{_≡_, refl, ap, _∙_}
 use mathlib.Core.Bool.{Bool, true, false, _||_}
 use mathlib.Core.Logic.{_⊎_, inl, inr, ⊎-elim, by-cases}
-use Prim.Native.Nat.{ℕ, suc, _+_, _-_, _*_, _/_, _%_, _≤_, _<_}
-use native.Mathlib.Nat.{mul-le-mul-left, mul-le-mul-right, mul-one, suc-mul, mod-lt, mod-eq-of-lt, div-eq-of-lt, add-mul-div-right, add-mul-mod-self-right, div-add-mod', zero-add, add-comm}
+use Prim.Native.Nat.{ℕ, suc, _+_, _-_, _*_, _≤_, _<_}
+use native.Mathlib.Nat.{mul-le-mul-left, mul-le-mul-right, mul-one, suc-mul, mod-lt, mod-eq-of-lt, add-mul-mod-self-right}
 use native.Mathlib.Decide.{decLt, decLe}
 use native.Mathlib.Omega.{arith}
 use lib.Dec.{leb}
 use borrow.Author.Tests.{leb-true, leb-false, le-leb, lt-leb, lt-ltb, le-ltb}
 use Rattle.geometry.specs.Line.{period, stepOf}
 use Rattle.geometry.specs.Drift.{drift, reach, first}
-use Rattle.geometry.specs.Laws.{period-forward, drift-rises, reach-at, reach-by}
-use Rattle.geometry.specs.Counting.{first-is-first}
+use Rattle.geometry.specs.Laws.{period-forward, step-at, step-split, drift-rises, first-is, reach-at, reach-by}
 use Rattle.runs.specs.Grid.{Page, startRow, lineName, entry, leave, steps, rowAt, columnAt, along, number, lineSteps, fromStartAt, toEndAt, spot, Sized}
 use Rattle.runs.specs.Block.{fromStart, toEnd}
 use Rattle.runs.specs.declared.Grid.{Grid}
@@ -54,7 +53,7 @@ module _ (g : Grid) (sized : Sized g) where
   before-leave : (u z s : ℕ) → s < leave g u z → (u + s * period (g .line) < g .height) × (drift (g .line) s < z)
   unfolding leave
   before-leave u z s h =
-      let f = first-is-first (λ (s : ℕ). leb (g .height) (u + s * period (g .line)) || leb z (drift (g .line) s)) 0 (g .height) in
+      let f = first-is (λ (s : ℕ). leb (g .height) (u + s * period (g .line)) || leb z (drift (g .line) s)) 0 (g .height) in
       let both = or-false _ _ (f .before s (omega arith) h) in
       (leb-false _ _ (both .0), leb-false _ _ (both .1))
 
@@ -62,7 +61,7 @@ module _ (g : Grid) (sized : Sized g) where
   unfolding leave
   leave-after u z s low below =
       let test : ℕ → Bool = λ (s : ℕ). leb (g .height) (u + s * period (g .line)) || leb z (drift (g .line) s) in
-      let f = first-is-first test 0 (g .height) in
+      let f = first-is test 0 (g .height) in
       let r : ℕ = first test 0 (g .height) in
       let k : s ≤ s * period (g .line) = step-rows s in
       by-cases (decLt s r) (λ h. h) (λ h.
@@ -97,11 +96,8 @@ module _ (g : Grid) (sized : Sized g) where
     column-fits = omega (arith, there)
 
     pub step-found : stepOf (g .line) (rowAt g u s) ≡ s
-    unfolding rowAt stepOf
-    step-found =
-        let p : 0 < period (g .line) = period-forward (g .line) (sized .sound) in
-        let none : u / period (g .line) ≡ 0 = div-eq-of-lt small in
-        add-mul-div-right u s p ∙ ap (λ (q : ℕ). q + s) none ∙ zero-add s
+    unfolding rowAt
+    step-found = step-at (g .line) (sized .sound) u s small
 
     pub start-found : startRow g (rowAt g u s) ≡ u
     unfolding rowAt startRow
@@ -151,8 +147,8 @@ module _ (g : Grid) (sized : Sized g) where
     start-small = mod-lt R (period-forward (g .line) (sized .sound))
 
     pub row-again : rowAt g (startRow g R) (stepOf (g .line) R) ≡ R
-    unfolding rowAt startRow stepOf
-    row-again = add-comm (R % period (g .line)) (R / period (g .line) * period (g .line)) ∙ div-add-mod' R (period (g .line))
+    unfolding rowAt startRow
+    row-again = step-split (g .line) R
 
     pub column-again : columnAt g (lineName g R x) (stepOf (g .line) R) ≡ x
     unfolding columnAt lineName

@@ -1,5 +1,5 @@
--- `division::floor_div` meets its contract: the machine's quotient, lowered by one where its remainder is below zero, is the
--- floor (Floor). Both fit, since neither is larger than the number divided.
+-- `division::floor_div` meets its contract: the machine's quotient, lowered by one where its remainder is below zero,
+-- is the floor (Floor). Both fit, since neither is larger than the number divided.
 -- Assumes nothing.
 use Rattle.geometry.proofs.Bits.{FloorSteps, floor-steps}
 use Rattle.geometry.proofs.division.floor_div.Statement.{statement}

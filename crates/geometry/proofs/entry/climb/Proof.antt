@@ -26,7 +26,12 @@ shared-slice-read-if1 c = search needs
 returns : tie.Need-returns Inv-loop μ-loop
 returns c =
     let at = c .before .before .before .loop in
-    record { from = at .inv .0; to = at .inv .1; before = λ s h k. at .inv .2 s k h; at = λ h. omega (arith, c .if1 .taken) }
+    record {
+      from = at .inv .0;
+      to = at .inv .1;
+      before = λ s h k. at .inv .2 s k h;
+      at = λ h. omega (arith, c .if1 .taken);
+    }
 
 add-s : tie.Need-add-s Inv-loop μ-loop
 add-s c = search needs

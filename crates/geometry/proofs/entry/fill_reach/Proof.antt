@@ -1,4 +1,5 @@
--- `entry::fill_reach` meets its contract. The invariant: the entries below v are right, and no step below s has drifted v places.
+-- `entry::fill_reach` meets its contract. The invariant: the entries below v are right, and no step below s has drifted
+-- v places.
 -- Assumes nothing.
 use mathlib.Core.Path.{_≡_, refl}
 use Prim.Native.Nat.{ℕ, _-_, _≤_, _<_}
@@ -12,7 +13,8 @@ use Rattle.geometry.proofs.entry.fill_reach.Tie as tie
 
 abbrev Inv-loop : tie.InvT-loop
 Inv-loop profile reach₀ v₀ s₀ reach v s =
-    (v ≤ length reach) × (length reach ≡ length reach₀) × (s ≤ length profile) × ((k : ℕ) → k < s → getD profile k 0 < v) × ((u : ℕ) → u < v → Reaches profile u 0 (getD reach u 0))
+    (v ≤ length reach) × (length reach ≡ length reach₀) × (s ≤ length profile)
+    × ((k : ℕ) → k < s → getD profile k 0 < v) × ((u : ℕ) → u < v → Reaches profile u 0 (getD reach u 0))
 
 abbrev μ-loop : tie.MeasureT-loop
 μ-loop profile reach₀ v₀ s₀ reach v s = length reach₀ - v
@@ -40,7 +42,13 @@ loop-again c =
     let at = c .before .before .loop in
     let profile = c .before .before .before .before .before .args .profile .now in
     let found = climbed profile (at .v) (at .s) (c .climb .result) (c .climb .ensures) (at .inv .3) in
-    (simp length-set (omega arith), simp length-set (at .inv .1), found .to, (λ k h. omega (arith, found .before k (omega arith) h)), store-more (λ (u r : ℕ). Reaches profile u 0 r) (at .reach) (at .v) (c .climb .result) (omega arith) found (at .inv .4))
+    let right : ℕ → ℕ → Type 0 = λ (u r : ℕ). Reaches profile u 0 r in (
+      simp length-set (omega arith),
+      simp length-set (at .inv .1),
+      found .to,
+      (λ k h. omega (arith, found .before k (omega arith) h)),
+      store-more right (at .reach) (at .v) (c .climb .result) (omega arith) found (at .inv .4),
+    )
 
 same-length : tie.Need-same-length Inv-loop μ-loop
 same-length c = search needs
@@ -53,4 +61,7 @@ returns c =
     (at .inv .1, (entries, λ l p. reach-table l profile (at .reach) p entries))
 
 pub fill-reach-spec : {M : Type 1} → statement M
-fill-reach-spec = tie.close (tie.spec Inv-loop μ-loop loop-holds climb-requires mul-reach slice-write-reach add-v loop-less loop-again same-length returns)
+fill-reach-spec =
+    tie.close
+    (tie.spec Inv-loop μ-loop loop-holds climb-requires mul-reach slice-write-reach add-v loop-less loop-again
+    same-length returns)

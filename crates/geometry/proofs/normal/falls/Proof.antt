@@ -24,7 +24,9 @@ returns : tie.Need-returns
 unfolding falls
 returns c =
     let start = c .before .before .before in
-    ap (λ (z : ℤ). ltZ z (pos 0)) (minor-back (start .args .line) (start .pre) (c .minor-of .result) (c .minor-of .ensures)) ∙ below-zero (minorOf (start .args .line .dx) (start .args .line .dy))
+    ap (λ (z : ℤ). ltZ z (pos 0))
+    (minor-back (start .args .line) (start .pre) (c .minor-of .result) (c .minor-of .ensures))
+    ∙ below-zero (minorOf (start .args .line .dx) (start .args .line .dy))
 
 pub falls-spec : {M : Type 1} → statement M
 falls-spec = tie.close (tie.spec minor-of-requires returns)

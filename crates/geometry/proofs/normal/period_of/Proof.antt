@@ -17,7 +17,8 @@ unfolding period
 returns c =
     let start = c .before .before .before .before in
     let line = start .args .line in
-    c .major-of .ensures ∙ along line (start .pre) majorOf ∙ sym (ap (λ (b : Bool). cond b (majorOf (line .dx) (line .dy)) 1) (c .before .before .before .if1 .taken))
+    c .major-of .ensures ∙ along line (start .pre) majorOf
+    ∙ sym (ap (λ (b : Bool). cond b (majorOf (line .dx) (line .dy)) 1) (c .before .before .before .if1 .taken))
 
 returns-2 : tie.Need-returns-2
 unfolding period

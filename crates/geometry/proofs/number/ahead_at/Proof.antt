@@ -39,7 +39,9 @@ module _ (c : tie.After-period-of) where
   step = c .before .before .before .step-of .ensures
 
   place : x ≡ mirrored (falls (start .args .line)) (start .args .w) (start .args .minor)
-  place = c .before .mirrored .ensures ∙ ap (λ (b : Bool). mirrored b (start .args .w) (start .args .minor)) (c .before .before .falls .ensures)
+  place =
+      c .before .mirrored .ensures
+      ∙ ap (λ (b : Bool). mirrored b (start .args .w) (start .args .minor)) (c .before .before .falls .ensures)
 
   tabled : t < length (start .args .profile .now)
   tabled = step-tabled (start .pre) t step
@@ -63,10 +65,18 @@ sub-limit : tie.Need-sub-limit
 sub-limit c = omega (arith, below (c .before))
 
 rem-last-step : tie.Need-rem-last-step
-rem-last-step c = omega (arith, c .before .period-of .ensures, period-forward (start (c .before) .args .line) (start (c .before) .pre .allowed .sound))
+rem-last-step c =
+    omega (
+      arith,
+      c .before .period-of .ensures,
+      period-forward (start (c .before) .args .line)
+          (start (c .before) .pre .allowed .sound),
+    )
 
 last-step-requires : tie.Need-last-step-requires
-last-step-requires c κs = walks (start (c .before) .pre) (t (c .before)) (step (c .before)) (x (c .before)) (place (c .before)) (c .before .period-of .result) (c .before .period-of .ensures)
+last-step-requires c κs =
+    walks (start (c .before) .pre) (t (c .before)) (step (c .before)) (x (c .before)) (place (c .before))
+    (c .before .period-of .result) (c .before .period-of .ensures)
 
 sub-result : tie.Need-sub-result
 sub-result c = c .last-step .ensures .on
@@ -74,7 +84,8 @@ sub-result c = c .last-step .ensures .on
 returns : tie.Need-returns
 returns d =
     let c = d .before .before in
-    ahead-is-left (start c .pre) (t c) (step c) (x c) (place c) (c .period-of .result) (c .period-of .ensures) (d .last-step .result) (d .last-step .ensures)
+    ahead-is-left (start c .pre) (t c) (step c) (x c) (place c) (c .period-of .result) (c .period-of .ensures)
+    (d .last-step .result) (d .last-step .ensures)
 
 pub ahead-at-spec : {M : Type 1} → statement M
 ahead-at-spec =

@@ -23,12 +23,17 @@ mirrored-requires c κs = c .before .before .before .before .pre .0 .on-page .m-
 mul-missing : tie.Need-mul-missing
 mul-missing c =
     let start = c .before .before .before .before .before in
-    omega (arith, step-tabled (start .pre .0) (c .before .before .step-of .result) (c .before .before .step-of .ensures))
+    omega (
+      arith,
+      step-tabled (start .pre .0) (c .before .before .step-of .result)
+          (c .before .before .step-of .ensures),
+    )
 
 shared-slice-read-missing : tie.Need-shared-slice-read-missing
 shared-slice-read-missing c =
     let start = c .before .before .before .before .before .before in
-    step-tabled (start .pre .0) (c .before .before .before .step-of .result) (c .before .before .before .step-of .ensures)
+    step-tabled (start .pre .0) (c .before .before .before .step-of .result)
+    (c .before .before .before .step-of .ensures)
 
 missing-requires : tie.Need-missing-requires
 missing-requires c κs = search needs
@@ -38,11 +43,18 @@ module _ (c : tie.After-missing) where
   abbrev start : tie.Start
   start = c .before .before .before .before .before .before .before
 
-  place : c .before .before .mirrored .result ≡ mirrored (falls (start .args .line)) (start .args .w) (start .args .minor)
-  place = c .before .before .mirrored .ensures ∙ ap (λ (b : Bool). mirrored b (start .args .w) (start .args .minor)) (c .before .before .before .falls .ensures)
+  place : c .before .before .mirrored .result
+      ≡ mirrored (falls (start .args .line)) (start .args .w) (start .args .minor)
+  place =
+      c .before .before .mirrored .ensures
+      ∙ ap (λ (b : Bool). mirrored b (start .args .w) (start .args .minor))
+      (c .before .before .before .falls .ensures)
 
   tabled : c .missing .result < length (start .args .reach .now)
-  tabled = missing-tabled (start .pre .0) (c .before .before .before .before .step-of .result) (c .before .before .before .before .step-of .ensures) (c .before .before .mirrored .result) place (start .pre .1) (c .missing .result) (c .missing .ensures)
+  tabled =
+      missing-tabled (start .pre .0) (c .before .before .before .before .step-of .result)
+      (c .before .before .before .before .step-of .ensures) (c .before .before .mirrored .result) place
+      (start .pre .1) (c .missing .result) (c .missing .ensures)
 
 mul-result : tie.Need-mul-result
 mul-result c = omega (arith, tabled c)
@@ -53,12 +65,16 @@ shared-slice-read-result c = tabled (c .before)
 sub-result : tie.Need-sub-result
 sub-result d =
     let c = d .before in
-    reach-below (start c .pre .0) (c .before .before .before .before .step-of .result) (c .before .before .before .before .step-of .ensures) (c .before .before .mirrored .result) (place c) (start c .pre .1) (c .missing .result) (c .missing .ensures)
+    reach-below (start c .pre .0) (c .before .before .before .before .step-of .result)
+    (c .before .before .before .before .step-of .ensures) (c .before .before .mirrored .result) (place c)
+    (start c .pre .1) (c .missing .result) (c .missing .ensures)
 
 returns : tie.Need-returns
 returns d =
     let c = d .before in
-    behind-is (start c .pre .0) (c .before .before .before .before .step-of .result) (c .before .before .before .before .step-of .ensures) (c .before .before .mirrored .result) (place c) (start c .pre .1) (c .missing .result) (c .missing .ensures)
+    behind-is (start c .pre .0) (c .before .before .before .before .step-of .result)
+    (c .before .before .before .before .step-of .ensures) (c .before .before .mirrored .result) (place c)
+    (start c .pre .1) (c .missing .result) (c .missing .ensures)
 
 pub behind-at-spec : {M : Type 1} → statement M
 behind-at-spec =

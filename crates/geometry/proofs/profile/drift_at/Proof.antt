@@ -11,7 +11,8 @@ use Rattle.geometry.specs.Line.{shift}
 use Rattle.geometry.specs.Tables.{Slight}
 use Rattle.geometry.proofs.Bits.{back, near}
 use Rattle.geometry.proofs.Vectors.{returned}
-use Rattle.geometry.proofs.Profiles.{along, minor-back, minor-low, slight, shift-near, drift-periodic, drift-connected}
+use Rattle.geometry.proofs.Profiles.{along, minor-back, minor-low, slight, shift-near, drift-periodic}
+use Rattle.geometry.proofs.Profiles.{drift-connected}
 use Rattle.geometry.proofs.profile.drift_at.Statement.{statement}
 use Rattle.geometry.proofs.profile.drift_at.Tie as tie
 
@@ -19,15 +20,24 @@ minor-of-requires : tie.Need-minor-of-requires
 minor-of-requires c κs = search needs
 
 -- the minor component, read back
-minor : (c : tie.After-minor-of) → back (c .minor-of .result) ≡ minorOf (c .before .before .before .args .line .dx) (c .before .before .before .args .line .dy)
-minor c = minor-back (c .before .before .before .args .line) (c .before .before .before .pre .0) (c .minor-of .result) (c .minor-of .ensures)
+minor : (c : tie.After-minor-of)
+    → back (c .minor-of .result)
+    ≡ minorOf (c .before .before .before .args .line .dx) (c .before .before .before .args .line .dy)
+minor c =
+    minor-back (c .before .before .before .args .line) (c .before .before .before .pre .0) (c .minor-of .result)
+    (c .minor-of .ensures)
 
 size-requires : tie.Need-size-requires
 size-requires c κs =
     let start = c .before .before .before .before in
-    subst (λ (z : ℤ). natAbs z < 2 ^ 63) (sym (minor (c .before))) (omega (arith, minor-low (start .args .line) (start .pre .0)))
+    subst (λ (z : ℤ). natAbs z < 2 ^ 63) (sym (minor (c .before)))
+    (omega (arith, minor-low (start .args .line) (start .pre .0)))
 
-minor-size : (c : tie.After-size) → c .size .result ≡ natAbs (minorOf (c .before .before .before .before .before .args .line .dx) (c .before .before .before .before .before .args .line .dy))
+minor-size : (c : tie.After-size)
+    → c .size .result
+    ≡ natAbs
+    (minorOf (c .before .before .before .before .before .args .line .dx)
+    (c .before .before .before .before .before .args .line .dy))
 minor-size c = c .size .ensures ∙ ap natAbs (minor (c .before .before))
 
 mul-result : tie.Need-mul-result
@@ -54,10 +64,14 @@ module _ (c : tie.After-shift-at) where
   start = c .before .before .before .before .before .before .before .before
 
   abbrev exact : ℤ
-  exact = shift (majorOf (start .args .line .dx) (start .args .line .dy)) (minorOf (start .args .line .dx) (start .args .line .dy)) (start .args .line .phase) (start .args .t)
+  exact =
+      shift (majorOf (start .args .line .dx) (start .args .line .dy))
+      (minorOf (start .args .line .dx) (start .args .line .dy)) (start .args .line .phase) (start .args .t)
 
   exact-near : natAbs exact ≤ 16712192
-  exact-near = shift-near _ _ (start .args .line .phase) (start .args .t) (slight (start .args .line) (start .pre .0) (start .args .t) (start .pre .1))
+  exact-near =
+      shift-near _ _ (start .args .line .phase) (start .args .t)
+      (slight (start .args .line) (start .pre .0) (start .args .t) (start .pre .1))
 
   shifted : back (c .shift-at .result) ≡ exact
   shifted =
@@ -74,14 +88,16 @@ size-requires-2 c κs = subst (λ (z : ℤ). natAbs z < 2 ^ 63) (sym (shifted c)
 returns : tie.Need-returns
 returns c =
     let start = c .before .before .before .before .before in
-    ap (λ (b : ℕ). start .args .t * b) (minor-size c) ∙ sym (drift-periodic (start .args .line) (start .pre .0) (start .args .t) (c .before .if1 .taken))
+    ap (λ (b : ℕ). start .args .t * b) (minor-size c)
+    ∙ sym (drift-periodic (start .args .line) (start .pre .0) (start .args .t) (c .before .if1 .taken))
 
 returns-2 : tie.Need-returns-2
 returns-2 c =
     let whole = start (c .before) in
     c .size2 .ensures
     ∙ ap natAbs (shifted (c .before))
-    ∙ sym (drift-connected (whole .args .line) (whole .pre .0) (whole .args .t) (c .before .before .before .before .before .if1 .left))
+    ∙ sym (drift-connected (whole .args .line) (whole .pre .0) (whole .args .t)
+    (c .before .before .before .before .before .if1 .left))
 
 pub drift-at-spec : {M : Type 1} → statement M
 drift-at-spec =

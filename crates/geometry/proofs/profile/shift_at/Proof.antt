@@ -9,12 +9,15 @@ add-nearest-row : tie.Need-add-nearest-row
 add-nearest-row c = record { fits = omega (arith, c .pre .column) }
 
 nearest-row-requires : tie.Need-nearest-row-requires
-nearest-row-requires c κs = row-asks (c .args .major) (c .args .minor) (c .args .phase) (c .args .c) (c .pre) _ (omega (arith, c .pre .column))
+nearest-row-requires c κs =
+    row-asks (c .args .major) (c .args .minor) (c .args .phase) (c .args .c) (c .pre) _
+    (omega (arith, c .pre .column))
 
 nearest-row-requires-2 : tie.Need-nearest-row-requires-2
 nearest-row-requires-2 c κs =
     let start = c .before in
-    row-asks (start .args .major) (start .args .minor) (start .args .phase) (start .args .c) (start .pre) _ (omega (arith, start .pre .column))
+    row-asks (start .args .major) (start .args .minor) (start .args .phase) (start .args .c) (start .pre) _
+    (omega (arith, start .pre .column))
 
 returns : tie.Need-returns
 returns c =

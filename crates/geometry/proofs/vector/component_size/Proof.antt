@@ -13,10 +13,13 @@ wide-requires : tie.Need-wide-requires
 wide-requires c κs = search needs
 
 same : (c : tie.After-wide) → back (c .wide .result) ≡ c .before .args .z
-same c = returned (c .wide .result) (c .before .args .z) (wide-fits (c .before .args .z) (c .before .fits .z)) (c .wide .ensures ∙ part-is (c .before .args .z) (c .before .fits .z))
+same c =
+    returned (c .wide .result) (c .before .args .z) (wide-fits (c .before .args .z) (c .before .fits .z))
+    (c .wide .ensures ∙ part-is (c .before .args .z) (c .before .fits .z))
 
 size-requires : tie.Need-size-requires
-size-requires c κs = subst (λ (z : ℤ). natAbs z < 2 ^ 63) (sym (same c)) (component-near (c .before .args .z) (c .before .fits .z))
+size-requires c κs =
+    subst (λ (z : ℤ). natAbs z < 2 ^ 63) (sym (same c)) (component-near (c .before .args .z) (c .before .fits .z))
 
 returns : tie.Need-returns
 returns c = c .size .ensures ∙ ap natAbs (same (c .before))

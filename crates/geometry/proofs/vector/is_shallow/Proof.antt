@@ -21,14 +21,16 @@ returns : tie.Need-returns
 unfolding shallow
 returns c =
     let start = c .before in
-    sym (ap (λ (t : Bool). t && leZ (pos (natAbs (start .args .dy))) (start .args .dx)) (not-forward (natAbs (start .args .dy)) (start .args .dx) (start .fits .dx) (c .if1 .taken)))
+    sym (ap (λ (t : Bool). t && leZ (pos (natAbs (start .args .dy))) (start .args .dx))
+    (not-forward (natAbs (start .args .dy)) (start .args .dx) (start .fits .dx) (c .if1 .taken)))
 
 returns-2 : tie.Need-returns-2
 unfolding shallow
 returns-2 c =
     let start = c .before .before .before in
     ap₂ leb (c .before .component-size .ensures) (c .component-size2 .ensures)
-    ∙ of-parts (λ (x y : ℤ). leb (natAbs x) (natAbs y)) (start .args .dy) (start .args .dx) (start .fits .dy) (start .fits .dx)
+    ∙ of-parts (λ (x y : ℤ). leb (natAbs x) (natAbs y)) (start .args .dy) (start .args .dx) (start .fits .dy)
+    (start .fits .dx)
     ∙ forward-from (natAbs (start .args .dy)) (start .args .dx) (start .fits .dx) (c .before .before .if1 .left)
 
 pub is-shallow-spec : {M : Type 1} → statement M

@@ -21,14 +21,16 @@ returns : tie.Need-returns
 unfolding steep
 returns c =
     let start = c .before in
-    sym (ap (λ (t : Bool). t && ltZ (pos (natAbs (start .args .dx))) (start .args .dy)) (not-forward (natAbs (start .args .dx)) (start .args .dy) (start .fits .dy) (c .if1 .taken)))
+    sym (ap (λ (t : Bool). t && ltZ (pos (natAbs (start .args .dx))) (start .args .dy))
+    (not-forward (natAbs (start .args .dx)) (start .args .dy) (start .fits .dy) (c .if1 .taken)))
 
 returns-2 : tie.Need-returns-2
 unfolding steep
 returns-2 c =
     let start = c .before .before .before in
     ap₂ ltb (c .before .component-size .ensures) (c .component-size2 .ensures)
-    ∙ of-parts (λ (x y : ℤ). ltb (natAbs x) (natAbs y)) (start .args .dx) (start .args .dy) (start .fits .dx) (start .fits .dy)
+    ∙ of-parts (λ (x y : ℤ). ltb (natAbs x) (natAbs y)) (start .args .dx) (start .args .dy) (start .fits .dx)
+    (start .fits .dy)
     ∙ forward-above (natAbs (start .args .dx)) (start .args .dy) (start .fits .dy) (c .before .before .if1 .left)
 
 pub is-steep-spec : {M : Type 1} → statement M

@@ -1,10 +1,10 @@
 -- `sweep::rows::sweep_row` meets its contract: the row of the sweep that is asked for. Assumes nothing.
-use mathlib.Core.Path.{_≡_, ap}
+use mathlib.Core.Path.{_≡_, sym, ap, _∙_}
 use Prim.Native.Nat.{ℕ, _/_}
 use native.Mathlib.Omega.{arith}
 use borrow.Author.Needs.{needs}
 use Rattle.geometry.specs.Line.{period, stepOf}
-use Rattle.geometry.specs.Laws.{period-forward}
+use Rattle.geometry.specs.Laws.{period-forward, step-is}
 use Rattle.runs.specs.declared.Grid.{Grid}
 use Rattle.sweep.proofs.rows.sweep_row.Statement.{statement}
 use Rattle.sweep.proofs.rows.sweep_row.Tie as tie
@@ -16,8 +16,7 @@ div-step c =
 
 -- the code's step of a row
 same : (g : Grid) (R : ℕ) → g .period ≡ period (g .line) → R / g .period ≡ stepOf (g .line) R
-unfolding stepOf
-same g R e = ap (λ (q : ℕ). R / q) e
+same g R e = ap (λ (q : ℕ). R / q) e ∙ sym (step-is (g .line) R)
 
 backward-row-requires : tie.Need-backward-row-requires
 backward-row-requires c κs =

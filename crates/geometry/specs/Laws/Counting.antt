@@ -7,22 +7,24 @@ use Prim.Native.Nat.{ℕ, zero, suc, _+_, _≤_, _<_}
 use native.Mathlib.Decide.{decLt}
 use native.Mathlib.Omega.{arith}
 use Rattle.geometry.specs.Number.{count}
-use Rattle.geometry.specs.Drift.{first}
-
--- what the first number is: none before it passes, and it passes itself unless it is the end
-pub record First (test : ℕ → Bool) (k n r : ℕ) : Type 0 where
-  pub from : k ≤ r
-  pub to : r ≤ k + n
-  pub before : (s : ℕ) → k ≤ s → s < r → test s ≡ false
-  pub passes : r < k + n → test r ≡ true
+use Rattle.geometry.specs.Drift.{First, first}
 
 pub first-is-first : (test : ℕ → Bool) (k n : ℕ) → First test k n (first test k n)
 unfolding first
-first-is-first test k zero = record { from = omega arith; to = omega arith; before = λ s h i. absurd (omega arith); passes = λ h. absurd (omega arith) }
+first-is-first test k zero =
+    record {
+      from = omega arith;
+      to = omega arith;
+      before = λ s h i. absurd (omega arith);
+      passes = λ h. absurd (omega arith);
+    }
 first-is-first test k (suc n) = go (test k) refl (first-is-first test (suc k) n)
   where
-    go : (b : Bool) → test k ≡ b → First test (suc k) n (first test (suc k) n) → First test k (suc n) (cond (test k) k (first test (suc k) n))
-    go true e f = rw e (record { from = omega arith; to = omega arith; before = λ s h i. absurd (omega arith); passes = λ h. e })
+    go : (b : Bool) → test k ≡ b → First test (suc k) n (first test (suc k) n)
+        → First test k (suc n) (cond (test k) k (first test (suc k) n))
+    go true e f =
+        rw e
+        (record { from = omega arith; to = omega arith; before = λ s h i. absurd (omega arith); passes = λ h. e })
     go false e f =
         rw e
         (record {
@@ -41,7 +43,10 @@ first-unique test k n p q f g =
     by-cases
     (decLt p q)
     (λ h. absurd (false≢true (sym (g .before p (f .from) h) ∙ f .passes (omega (arith, g .to)))))
-    (λ h. by-cases (decLt q p) (λ i. absurd (false≢true (sym (f .before q (g .from) i) ∙ g .passes (omega (arith, f .to))))) (λ i. omega arith))
+    (λ h. by-cases
+    (decLt q p)
+    (λ i. absurd (false≢true (sym (f .before q (g .from) i) ∙ g .passes (omega (arith, f .to)))))
+    (λ i. omega arith))
 
 -- a test that passes from lo up to hi and nowhere else passes hi - lo times
 pub record Run (test : ℕ → Bool) (k n lo hi : ℕ) : Type 0 where
@@ -60,15 +65,42 @@ count-run test k (suc n) lo hi r =
     (decLt k lo)
     (λ h.
     let e : test k ≡ false = r .before k (omega arith) h in
-    let rest : count test (suc k) n + lo ≡ hi = count-run test (suc k) n lo hi (record { from = h; up = r .up; to = omega (arith, r .to); before = λ s i j. r .before s (omega arith) j; passes = r .passes; after = λ s i j. r .after s i (omega arith) }) in
+    let rest : count test (suc k) n + lo ≡ hi =
+    count-run test (suc k) n lo hi
+    (record {
+      from = h;
+      up = r .up;
+      to = omega (arith, r .to);
+      before = λ s i j. r .before s (omega arith) j;
+      passes = r .passes;
+      after = λ s i j. r .after s i (omega arith);
+    }) in
     rw e (omega arith))
     (λ h. by-cases
     (decLt lo hi)
     (λ i.
     let e : test k ≡ true = r .passes k (omega arith) (omega (arith, r .from)) in
-    let rest : count test (suc k) n + suc lo ≡ hi = count-run test (suc k) n (suc lo) hi (record { from = omega (arith, r .from); up = i; to = omega (arith, r .to); before = λ s j m. absurd (omega (arith, r .from)); passes = λ s j m. r .passes s (omega arith) m; after = λ s j m. r .after s j (omega arith) }) in
+    let rest : count test (suc k) n + suc lo ≡ hi =
+    count-run test (suc k) n (suc lo) hi
+    (record {
+      from = omega (arith, r .from);
+      up = i;
+      to = omega (arith, r .to);
+      before = λ s j m. absurd (omega (arith, r .from));
+      passes = λ s j m. r .passes s (omega arith) m;
+      after = λ s j m. r .after s j (omega arith);
+    }) in
     rw e (omega arith))
     (λ i.
     let e : test k ≡ false = r .after k (omega (arith, r .from)) (omega arith) in
-    let rest : count test (suc k) n + suc k ≡ suc k = count-run test (suc k) n (suc k) (suc k) (record { from = omega arith; up = omega arith; to = omega arith; before = λ s j m. absurd (omega arith); passes = λ s j m. absurd (omega arith); after = λ s j m. r .after s (omega (arith, r .from)) (omega arith) }) in
+    let rest : count test (suc k) n + suc k ≡ suc k =
+    count-run test (suc k) n (suc k) (suc k)
+    (record {
+      from = omega arith;
+      up = omega arith;
+      to = omega arith;
+      before = λ s j m. absurd (omega arith);
+      passes = λ s j m. absurd (omega arith);
+      after = λ s j m. r .after s (omega (arith, r .from)) (omega arith);
+    }) in
     rw e (omega (arith, r .from, r .up))))
