@@ -1,208 +1,249 @@
 -- The compact page: that it fits its tray, and what pages taken in and given out hold.
 -- Assumes nothing.
 use mathlib.Core.Path.{_≡_, refl, sym, _∙_, ap, subst}
-use mathlib.Core.Bool.{Bool, true, false, _&&_}
+use mathlib.Core.Bool.{Bool, true, false}
 use mathlib.Core.List.{List}
 use Prim.Native.Nat.{ℕ, _+_, _-_, _*_, _≤_, _<_}
-use native.Mathlib.Nat.{mul-comm, sub-zero, le-div-iff-mul-le, le-refl}
+use native.Mathlib.Nat.{mul-comm, le-refl}
 use native.Mathlib.Omega.{arith}
-use lib.Dec.{leb, ltb}
 use lib.ListN.{length, getD}
-use borrow.Author.Tests.{le-ltb}
-use Rattle.tray.specs.declared.Placement.{Placement}
-use Rattle.tray.specs.Placement.{byteOf, pixelIn}
-use Rattle.tray.specs.Written.{columnOf, rowOf, inside, written}
 use Rattle.geometry.specs.Drift.{mirrored}
-use Rattle.tray.specs.Turned.{downOf, acrossOf, compactColumn, compactAt, compactOf}
-use Rattle.tray.specs.Promises.{Placed, PageIn, compactPixel}
-use Rattle.tray.specs.Laws.{length-written, written-outside, written-pixel, written-same, mirrored-twice, down-in, compact-column-in, compact-below, compact-byte}
+use Rattle.geometry.specs.Laws.{mirrored-rising, mirrored-twice}
+use Rattle.tray.specs.declared.Layout.{Layout}
+use Rattle.tray.specs.declared.Placement.{Placement}
+use Rattle.tray.specs.declared.turn.Turn.{Turn}
+use Rattle.tray.specs.Placement.{byteOf, pixelIn, longestSide}
+use Rattle.tray.specs.Written.{written}
+use Rattle.tray.specs.Turned.{downOf, acrossOf, compactRow, compactColumn, compactAt, compactOf}
+use Rattle.tray.specs.Promises.{Placed, SameSides, PageIn, compactPixel}
+use Rattle.tray.specs.Laws.{outside-past, length-written, written-outside, written-pixel, written-same}
+use Rattle.tray.specs.Laws.{laidSo, compact-row-in, compact-column-in, compact-below, compact-byte}
 use Rattle.tray.specs.Pieces.{Alike, Turnable, copiedPixel, sourcePixel, turnedPixel}
 
-both-false : (a b : Bool) → a && (b && false) ≡ false
-both-false true true = refl
-both-false true false = refl
-both-false false b = refl
+rows-fit : (w h m : ℕ) → 1 ≤ h → h * w ≤ m → 0 + (h - 1) * w + w ≤ m
+rows-fit w h m some fits =
+    let back : (h - 1 + 1) * w ≡ h * w = ap (λ (k : ℕ). k * w) (omega arith) in
+    omega (arith, back)
 
-past-rows : (q : Placement) (i : ℕ) → q .height ≤ rowOf q i → inside q i ≡ false
-unfolding inside
-past-rows q i h = rw (le-ltb (rowOf q i) (q .height) h) (both-false (leb (q .offset) i) (ltb (columnOf q i) (q .width)))
+module _ (lay : Layout) (p : Placement) (n m : ℕ) (placed : Placed p n) (same : SameSides lay p) (room : lay .width * lay .height ≤ m) where
+  width-least : 1 ≤ lay .width
+  width-least = omega (arith, placed .width-least, same .across)
 
-module _ (p : Placement) (n m : ℕ) (placed : Placed p n) (room : p .width * p .height ≤ m) where
-  rows-fit : (w h : ℕ) → 1 ≤ h → h * w ≤ m → 0 + (h - 1) * w + w ≤ m
-  rows-fit w h some fits =
-      let back : (h - 1 + 1) * w ≡ h * w = ap (λ (k : ℕ). k * w) (omega arith) in
-      omega (arith, back)
+  width-most : lay .width ≤ longestSide
+  width-most = omega (arith, placed .width-most, same .across)
 
-  pub compact-placed : (steep : Bool) → Placed (compactOf steep p) m
+  height-least : 1 ≤ lay .height
+  height-least = omega (arith, placed .height-least, same .down)
+
+  height-most : lay .height ≤ longestSide
+  height-most = omega (arith, placed .height-most, same .down)
+
+  compact-placed : Placed (compactOf lay) m
   unfolding compactOf downOf acrossOf
-  compact-placed true =
-      record {
-        width-least = placed .width-least;
-        width-most = placed .width-most;
-        height-least = placed .height-least;
-        height-most = placed .height-most;
-        stride-least = le-refl (p .width);
-        stride-most = omega (arith, placed .width-most);
-        fitting = rows-fit (p .width) (p .height) (placed .height-least) (omega (arith, mul-comm (p .width) (p .height)));
-      }
-  compact-placed false =
-      record {
-        width-least = placed .height-least;
-        width-most = placed .height-most;
-        height-least = placed .width-least;
-        height-most = placed .width-most;
-        stride-least = le-refl (p .height);
-        stride-most = omega (arith, placed .height-most);
-        fitting = rows-fit (p .height) (p .width) (placed .width-least) room;
-      }
+  compact-placed = by-way (lay .steep)
+    where
+      by-way : (steep : Bool) → Placed (compactOf (laidSo lay steep)) m
+      by-way true =
+          record {
+            width-least = width-least;
+            width-most = width-most;
+            height-least = height-least;
+            height-most = height-most;
+            stride-least = le-refl (lay .width);
+            stride-most = omega (arith, width-most);
+            fitting =
+                rows-fit (lay .width) (lay .height) m height-least (omega (arith, mul-comm (lay .width) (lay .height), room));
+          }
+      by-way false =
+          record {
+            width-least = height-least;
+            width-most = height-most;
+            height-least = width-least;
+            height-most = width-most;
+            stride-least = le-refl (lay .height);
+            stride-most = omega (arith, height-most);
+            fitting = rows-fit (lay .height) (lay .width) m width-least room;
+          }
 
 -- a page taken in: whatever was written holds the page's pixels in their compact places
-module _ (source : List ℕ) (p : Placement) (n : ℕ) (steep falls : Bool) (before : List ℕ) (placed : Placed p n) (room : p .width * p .height ≤ length before) where
-  past-compact : (i : ℕ) → p .width * p .height ≤ i → inside (compactOf steep p) i ≡ false
-  unfolding compactOf downOf acrossOf rowOf
-  past-compact i l = past-rows (compactOf steep p) i (past-last steep)
-    where
-      past-last : (steep : Bool) → compactOf steep p .height ≤ rowOf (compactOf steep p) i
-      past-last true =
-          rw sub-zero (le-div-iff-mul-le (placed .width-least) .1 (omega (arith, mul-comm (p .width) (p .height))))
-      past-last false = rw sub-zero (le-div-iff-mul-le (placed .height-least) .1 l)
+module _
+    (source : List ℕ) (p : Placement) (lay : Layout) (n : ℕ) (before : List ℕ) (placed : Placed p n) (same : SameSides lay p)
+    (room : lay .width * lay .height ≤ length before)
+  where
+    byte-in :
+        (c r : ℕ) → c < lay .width → r < lay .height
+        → byteOf (compactOf lay) (compactColumn lay c r) (compactRow lay c r) < length before
+    byte-in c r c-in r-in = rw (compact-byte lay c r) (omega (arith, compact-below lay c r c-in r-in, room))
 
-  pub page-in :
-      (page : ℕ → ℕ → ℕ) (after : List ℕ) → after ≡ written (compactOf steep p) page before
-      → ((r : ℕ) → r < p .height → (c : ℕ) → c < p .width
-      → page (compactColumn steep falls (p .width) (p .height) c r) (downOf steep c r) ≡ pixelIn source p c r)
-      → PageIn source p steep falls before after
+    page-in :
+        (page : ℕ → ℕ → ℕ) (after : List ℕ) → after ≡ written (compactOf lay) page before
+        → ((r : ℕ) → r < lay .height → (c : ℕ) → c < lay .width
+        → page (compactColumn lay c r) (compactRow lay c r) ≡ pixelIn source p c r)
+        → PageIn source p lay before after
+    unfolding compactOf
+    page-in page after is pixels =
+        record {
+          size = ap length is ∙ length-written (compactOf lay) page before;
+          pixel = λ r r-in c c-in.
+              let column = compact-column-in lay c r c-in r-in in
+              ap (λ (xs : List ℕ). getD xs (compactAt lay c r) 0) is
+              ∙ ap (λ (k : ℕ). getD (written (compactOf lay) page before) k 0) (sym (compact-byte lay c r))
+              ∙ written-pixel (compactOf lay) page before (compactColumn lay c r) (compactRow lay c r) column column
+              (compact-row-in lay c r c-in r-in)
+              (byte-in c r c-in r-in)
+              ∙ pixels r r-in c c-in;
+          rest = λ i l.
+              let all = lay .width * lay .height in
+              let past = outside-past (compactOf lay) all i (compact-placed lay p n all placed same (le-refl all)) l in
+              ap (λ (xs : List ℕ). getD xs i 0) is ∙ written-outside (compactOf lay) page before i past;
+        }
+
+-- ---- a pixel's compact place, by the way of the lines
+
+module _ (lay : Layout) (c r : ℕ) where
+  row-steep : lay .steep ≡ true → compactRow lay c r ≡ r
+  unfolding downOf
+  row-steep way = ap (λ (s : Bool). downOf s c r) way
+
+  column-steep : lay .steep ≡ true → compactColumn lay c r ≡ mirrored (lay .falls) (lay .width) c
+  unfolding compactColumn acrossOf
+  column-steep way =
+      ap (λ (s : Bool). mirrored (lay .falls) (acrossOf s (lay .width) (lay .height)) (acrossOf s c r)) way
+
+  row-shallow : lay .steep ≡ false → compactRow lay c r ≡ c
+  unfolding downOf
+  row-shallow way = ap (λ (s : Bool). downOf s c r) way
+
+  column-shallow : lay .steep ≡ false → compactColumn lay c r ≡ mirrored (lay .falls) (lay .height) r
+  unfolding compactColumn acrossOf
+  column-shallow way =
+      ap (λ (s : Bool). mirrored (lay .falls) (acrossOf s (lay .width) (lay .height)) (acrossOf s c r)) way
+
+-- ---- the four ways: q is where the compact page of p stands
+
+module _ (lay : Layout) (p q : Placement) (same : SameSides lay p) (is : q ≡ compactOf lay) where
+  wide : (s : Bool) → lay .steep ≡ s → q .width ≡ acrossOf s (lay .width) (lay .height)
   unfolding compactOf
-  page-in page after is pixels =
-      record {
-        size = ap length is ∙ length-written (compactOf steep p) page before;
-        pixel = λ r r-in c c-in.
-            ap (λ (xs : List ℕ). getD xs (compactAt steep falls (p .width) (p .height) c r) 0) is
-            ∙ ap (λ (k : ℕ). getD (written (compactOf steep p) page before) k 0) (sym (compact-byte steep falls p c r))
-            ∙ written-pixel (compactOf steep p) page before (compactColumn steep falls (p .width) (p .height) c r) (downOf steep c r)
-            (column-wide c r c-in r-in) (column-in c r c-in r-in) (row-in c r c-in r-in) (byte-in c r c-in r-in)
-            ∙ pixels r r-in c c-in;
-        rest = λ i l. ap (λ (xs : List ℕ). getD xs i 0) is ∙ written-outside (compactOf steep p) page before i (past-compact i l);
-      }
-    where
-      column-wide : (c r : ℕ) → c < p .width → r < p .height → compactColumn steep falls (p .width) (p .height) c r < compactOf steep p .stride
-      column-wide c r c-in r-in = compact-column-in steep falls (p .width) (p .height) c r c-in r-in
+  wide s way = ap (λ (x : Placement). x .width) is ∙ ap (λ (b : Bool). acrossOf b (lay .width) (lay .height)) way
 
-      column-in : (c r : ℕ) → c < p .width → r < p .height → compactColumn steep falls (p .width) (p .height) c r < compactOf steep p .width
-      column-in c r c-in r-in = compact-column-in steep falls (p .width) (p .height) c r c-in r-in
+  high : (s : Bool) → lay .steep ≡ s → q .height ≡ downOf s (lay .width) (lay .height)
+  unfolding compactOf
+  high s way = ap (λ (x : Placement). x .height) is ∙ ap (λ (b : Bool). downOf b (lay .width) (lay .height)) way
 
-      row-in : (c r : ℕ) → c < p .width → r < p .height → downOf steep c r < compactOf steep p .height
-      row-in c r c-in r-in = down-in steep c r (p .width) (p .height) c-in r-in
+  pub placed-compact : (n m : ℕ) → Placed p n → lay .width * lay .height ≤ m → Placed q m
+  placed-compact n m placed room =
+      subst (λ (x : Placement). Placed x m) (sym is) (compact-placed lay p n m placed same room)
 
-      byte-in :
-          (c r : ℕ) → c < p .width → r < p .height
-          → byteOf (compactOf steep p) (compactColumn steep falls (p .width) (p .height) c r) (downOf steep c r) < length before
-      byte-in c r c-in r-in =
-          rw (compact-byte steep falls p c r) (omega (arith, compact-below steep falls (p .width) (p .height) c r c-in r-in, room))
+  pub alike-in : lay .steep ≡ true → Alike p q
+  unfolding downOf acrossOf
+  alike-in way = record { across = wide true way ∙ sym (same .across); down = high true way ∙ sym (same .down) }
 
--- ---- the four ways
+  pub alike-out : lay .steep ≡ true → Alike q p
+  unfolding downOf acrossOf
+  alike-out way = record { across = same .across ∙ sym (wide true way); down = same .down ∙ sym (high true way) }
 
-module _ (p q : Placement) (steep : Bool) (is : q ≡ compactOf steep p) where
-  pub alike-in : steep ≡ true → Alike p q
-  unfolding compactOf downOf acrossOf
-  alike-in way =
-      subst (λ (x : Placement). Alike p x) (sym (is ∙ ap (λ (b : Bool). compactOf b p) way)) (record { across = refl; down = refl })
+  -- a shallow page is turned on its way in, and on its way out
+  abbrev pub turnIn : Turn
+  turnIn = record { source = p; target = q; readup = lay .falls; writeup = false }
 
-  pub alike-out : steep ≡ true → Alike q p
-  unfolding compactOf downOf acrossOf
-  alike-out way =
-      subst (λ (x : Placement). Alike x p) (sym (is ∙ ap (λ (b : Bool). compactOf b p) way)) (record { across = refl; down = refl })
+  abbrev pub turnOut : Turn
+  turnOut = record { source = q; target = p; readup = false; writeup = lay .falls }
 
-  pub turnable-in :
-      (n m : ℕ) (falls : Bool) → steep ≡ false → Placed p n → Placed q m
-      → Turnable (record { source = p; target = q; readup = falls; writeup = false }) n m
-  unfolding compactOf downOf acrossOf
-  turnable-in n m falls way from to =
-      let so : q ≡ compactOf false p = is ∙ ap (λ (b : Bool). compactOf b p) way in
-      record { from-tray = from; to-tray = to; across = ap (λ (x : Placement). x .width) so; down = ap (λ (x : Placement). x .height) so }
-
-  pub turnable-out :
-      (n m : ℕ) (falls : Bool) → steep ≡ false → Placed q n → Placed p m
-      → Turnable (record { source = q; target = p; readup = false; writeup = falls }) n m
-  unfolding compactOf downOf acrossOf
-  turnable-out n m falls way from to =
-      let so : q ≡ compactOf false p = is ∙ ap (λ (b : Bool). compactOf b p) way in
+  pub turnable-in : (n m : ℕ) → lay .steep ≡ false → Placed p n → Placed q m → Turnable turnIn n m
+  unfolding downOf acrossOf
+  turnable-in n m way from to =
       record {
         from-tray = from;
         to-tray = to;
-        across = sym (ap (λ (x : Placement). x .height) so);
-        down = sym (ap (λ (x : Placement). x .width) so);
+        across = wide false way ∙ sym (same .down);
+        down = high false way ∙ sym (same .across);
       }
 
-  pub placed-compact : (n m : ℕ) → Placed p n → p .width * p .height ≤ m → Placed q m
-  placed-compact n m placed room = subst (λ (x : Placement). Placed x m) (sym is) (compact-placed p n m placed room steep)
+  pub turnable-out : (n m : ℕ) → lay .steep ≡ false → Placed q n → Placed p m → Turnable turnOut n m
+  unfolding downOf acrossOf
+  turnable-out n m way from to =
+      record {
+        from-tray = from;
+        to-tray = to;
+        across = same .across ∙ sym (high false way);
+        down = same .down ∙ sym (wide false way);
+      }
 
-module _ (tray : List ℕ) (p : Placement) (falls : Bool) (c r : ℕ) (c-in : c < p .width) (r-in : r < p .height) where
-  pub copied-in : copiedPixel tray p falls (compactColumn true falls (p .width) (p .height) c r) (downOf true c r) ≡ pixelIn tray p c r
-  unfolding copiedPixel compactColumn downOf acrossOf
-  copied-in = ap (λ (k : ℕ). pixelIn tray p k r) (mirrored-twice falls (p .width) c c-in)
+  module _ (tray : List ℕ) (c r : ℕ) where
+    copied-in :
+        lay .steep ≡ true → c < lay .width
+        → copiedPixel tray p (lay .falls) (compactColumn lay c r) (compactRow lay c r) ≡ pixelIn tray p c r
+    unfolding copiedPixel
+    copied-in way c-in =
+        ap (pixelIn tray p (mirrored (lay .falls) (p .width) (compactColumn lay c r))) (row-steep lay c r way)
+        ∙ ap (λ (k : ℕ). pixelIn tray p (mirrored (lay .falls) k (compactColumn lay c r)) r) (same .across)
+        ∙ ap (λ (k : ℕ). pixelIn tray p (mirrored (lay .falls) (lay .width) k) r) (column-steep lay c r way)
+        ∙ ap (λ (k : ℕ). pixelIn tray p k r) (mirrored-twice (lay .falls) (lay .width) c c-in)
 
-  pub turned-in :
-      turnedPixel tray (record { source = p; target = compactOf false p; readup = falls; writeup = false })
-      (compactColumn false falls (p .width) (p .height) c r) (downOf false c r) ≡ pixelIn tray p c r
-  unfolding turnedPixel sourcePixel compactColumn downOf acrossOf mirrored
-  turned-in = ap (λ (k : ℕ). pixelIn tray p c k) (mirrored-twice falls (p .height) r r-in)
+    turned-in :
+        lay .steep ≡ false → r < lay .height
+        → turnedPixel tray turnIn (compactColumn lay c r) (compactRow lay c r) ≡ pixelIn tray p c r
+    unfolding turnedPixel sourcePixel
+    turned-in way r-in =
+        ap (λ (k : ℕ). pixelIn tray p k (mirrored (lay .falls) (p .height) (compactColumn lay c r)))
+        (mirrored-rising (q .height) (compactRow lay c r) ∙ row-shallow lay c r way)
+        ∙ ap (λ (k : ℕ). pixelIn tray p c (mirrored (lay .falls) k (compactColumn lay c r))) (same .down)
+        ∙ ap (λ (k : ℕ). pixelIn tray p c (mirrored (lay .falls) (lay .height) k)) (column-shallow lay c r way)
+        ∙ ap (pixelIn tray p c) (mirrored-twice (lay .falls) (lay .height) r r-in)
 
-module _ (page : List ℕ) (p : Placement) (falls : Bool) (c r : ℕ) where
-  pub copied-out : copiedPixel page (compactOf true p) falls c r ≡ compactPixel page true falls p c r
-  unfolding copiedPixel compactPixel pixelIn compactColumn compactOf downOf acrossOf
-  copied-out = ap (λ (k : ℕ). getD page k 0) (compact-byte true falls p c r)
+    -- a byte of q, found by a compact place
+    found : getD tray (byteOf q (compactColumn lay c r) (compactRow lay c r)) 0 ≡ compactPixel tray lay c r
+    unfolding compactPixel
+    found =
+        ap (λ (x : Placement). getD tray (byteOf x (compactColumn lay c r) (compactRow lay c r)) 0) is
+        ∙ ap (λ (k : ℕ). getD tray k 0) (compact-byte lay c r)
 
-  pub turned-out :
-      turnedPixel page (record { source = compactOf false p; target = p; readup = false; writeup = falls }) c r
-      ≡ compactPixel page false falls p c r
-  unfolding turnedPixel sourcePixel compactPixel pixelIn compactColumn compactOf downOf acrossOf mirrored
-  turned-out = ap (λ (k : ℕ). getD page k 0) (compact-byte false falls p c r)
+    copied-out : lay .steep ≡ true → copiedPixel tray q (lay .falls) c r ≡ compactPixel tray lay c r
+    unfolding copiedPixel pixelIn acrossOf
+    copied-out way =
+        ap (λ (k : ℕ). getD tray (byteOf q (mirrored (lay .falls) k c) r) 0) (wide true way)
+        ∙ ap (λ (k : ℕ). getD tray (byteOf q k r) 0) (sym (column-steep lay c r way))
+        ∙ ap (λ (k : ℕ). getD tray (byteOf q (compactColumn lay c r) k) 0) (sym (row-steep lay c r way))
+        ∙ found
 
-module _ (p q : Placement) (steep falls : Bool) (is : q ≡ compactOf steep p) (before after : List ℕ) where
-  pub in-steep :
-      (source : List ℕ) (n : ℕ) → steep ≡ true → Placed p n → p .width * p .height ≤ length before
-      → after ≡ written q (copiedPixel source p falls) before → PageIn source p steep falls before after
-  in-steep source n way placed room done =
-      let so : q ≡ compactOf true p = is ∙ ap (λ (b : Bool). compactOf b p) way in
-      subst (λ (b : Bool). PageIn source p b falls before after) (sym way)
-      (page-in source p n true falls before placed room (copiedPixel source p falls) after
-      (done ∙ ap (λ (x : Placement). written x (copiedPixel source p falls) before) so)
-      (λ r r-in c c-in. copied-in source p falls c r c-in r-in))
+    turned-out : lay .steep ≡ false → turnedPixel tray turnOut c r ≡ compactPixel tray lay c r
+    unfolding turnedPixel sourcePixel pixelIn
+    turned-out way =
+        ap (λ (k : ℕ). getD tray (byteOf q (mirrored (lay .falls) k r) (mirrored false (q .height) c)) 0) (same .down)
+        ∙ ap (λ (k : ℕ). getD tray (byteOf q k (mirrored false (q .height) c)) 0) (sym (column-shallow lay c r way))
+        ∙ ap (λ (k : ℕ). getD tray (byteOf q (compactColumn lay c r) k) 0)
+        (mirrored-rising (q .height) c ∙ sym (row-shallow lay c r way))
+        ∙ found
 
-  pub in-shallow :
-      (source : List ℕ) (n : ℕ) → steep ≡ false → Placed p n → p .width * p .height ≤ length before
-      → after ≡ written q (turnedPixel source (record { source = p; target = q; readup = falls; writeup = false })) before
-      → PageIn source p steep falls before after
-  in-shallow source n way placed room done =
-      let so : q ≡ compactOf false p = is ∙ ap (λ (b : Bool). compactOf b p) way in
-      subst (λ (b : Bool). PageIn source p b falls before after) (sym way)
-      (page-in source p n false falls before placed room
-      (turnedPixel source (record { source = p; target = compactOf false p; readup = falls; writeup = false })) after
-      (done
-      ∙ ap (λ (x : Placement). written x (turnedPixel source (record { source = p; target = x; readup = falls; writeup = false })) before) so)
-      (λ r r-in c c-in. turned-in source p falls c r c-in r-in))
+  module _ (before after : List ℕ) where
+    pub in-steep :
+        (source : List ℕ) (n : ℕ) → lay .steep ≡ true → Placed p n → lay .width * lay .height ≤ length before
+        → after ≡ written q (copiedPixel source p (lay .falls)) before → PageIn source p lay before after
+    in-steep source n way placed room done =
+        let page = copiedPixel source p (lay .falls) in
+        page-in source p lay n before placed same room page after (done ∙ ap (λ (x : Placement). written x page before) is)
+        (λ r r-in c c-in. copied-in source c r way c-in)
 
-  pub out-steep :
-      (page : List ℕ) → steep ≡ true → after ≡ written p (copiedPixel page q falls) before
-      → after ≡ written p (compactPixel page steep falls p) before
-  out-steep page way done =
-      let so : q ≡ compactOf true p = is ∙ ap (λ (b : Bool). compactOf b p) way in
-      done
-      ∙ ap (λ (x : Placement). written p (copiedPixel page x falls) before) so
-      ∙ written-same p (copiedPixel page (compactOf true p) falls) (compactPixel page true falls p) before
-      (λ r r-in c c-in. copied-out page p falls c r)
-      ∙ ap (λ (b : Bool). written p (compactPixel page b falls p) before) (sym way)
+    pub in-shallow :
+        (source : List ℕ) (n : ℕ) → lay .steep ≡ false → Placed p n → lay .width * lay .height ≤ length before
+        → after ≡ written q (turnedPixel source turnIn) before → PageIn source p lay before after
+    in-shallow source n way placed room done =
+        let page = turnedPixel source turnIn in
+        page-in source p lay n before placed same room page after (done ∙ ap (λ (x : Placement). written x page before) is)
+        (λ r r-in c c-in. turned-in source c r way r-in)
 
-  pub out-shallow :
-      (page : List ℕ) → steep ≡ false
-      → after ≡ written p (turnedPixel page (record { source = q; target = p; readup = false; writeup = falls })) before
-      → after ≡ written p (compactPixel page steep falls p) before
-  out-shallow page way done =
-      let so : q ≡ compactOf false p = is ∙ ap (λ (b : Bool). compactOf b p) way in
-      done
-      ∙ ap (λ (x : Placement). written p (turnedPixel page (record { source = x; target = p; readup = false; writeup = falls })) before) so
-      ∙ written-same p (turnedPixel page (record { source = compactOf false p; target = p; readup = false; writeup = falls }))
-      (compactPixel page false falls p) before
-      (λ r r-in c c-in. turned-out page p falls c r)
-      ∙ ap (λ (b : Bool). written p (compactPixel page b falls p) before) (sym way)
+    pub out-steep :
+        (page : List ℕ) → lay .steep ≡ true → after ≡ written p (copiedPixel page q (lay .falls)) before
+        → after ≡ written p (compactPixel page lay) before
+    out-steep page way done =
+        done
+        ∙ written-same p (copiedPixel page q (lay .falls)) (compactPixel page lay) before
+        (λ r r-in c c-in. copied-out page c r way)
+
+    pub out-shallow :
+        (page : List ℕ) → lay .steep ≡ false → after ≡ written p (turnedPixel page turnOut) before
+        → after ≡ written p (compactPixel page lay) before
+    out-shallow page way done =
+        done
+        ∙ written-same p (turnedPixel page turnOut) (compactPixel page lay) before
+        (λ r r-in c c-in. turned-out page c r way)

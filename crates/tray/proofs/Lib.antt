@@ -2,7 +2,9 @@ mod Decisions
 mod Stores
 mod Lent
 mod Painting
+mod Rectangles
 mod Tiling
 mod Pieces
 mod Lines
 mod Compact
+mod One

@@ -15,10 +15,12 @@ use Rattle.tray.specs.declared.Placement.{Placement}
 use Rattle.tray.specs.declared.turn.Turn.{Turn}
 use Rattle.tray.specs.Placement.{rowStart, byteOf, pixelIn}
 use Rattle.geometry.specs.Drift.{mirrored}
-use Rattle.tray.specs.Promises.{Placed, Filled}
-use Rattle.tray.specs.Laws.{row-room, row-pixel, byte-is, mirrored-in, mirrored-twice}
+use Rattle.geometry.specs.Laws.{mirrored-falling, mirrored-rising, mirrored-below, mirrored-twice}
+use Rattle.tray.specs.Promises.{Placed, RowFilled}
+use Rattle.tray.specs.Laws.{row-room, row-next, row-pixel, byte-is}
 use Rattle.tray.specs.Tiles.{Copied, Transposed}
-use Rattle.tray.specs.Pieces.{Right, Moved, Taken, Part, PutRow, PutRows, copiedPixel, sourcePixel, turnedPixel, stepOf}
+use Rattle.tray.specs.Pieces.{Right, Moved, Taken, Part, PutRows}
+use Rattle.tray.specs.Pieces.{copiedPixel, sourcePixel, turnedPixel, rowStepOf}
 use Rattle.tray.proofs.Lent.{part-length, lent-length, lent-below, lent-within, lent-above}
 use Rattle.tray.proofs.Pieces.{row-moved, part-none, join-down}
 
@@ -31,13 +33,13 @@ module _ (tray line : List ℕ) (p : Placement) (r : ℕ) (is : line ≡ take (p
 
   -- a row that is filled with it
   pub filled-pixel :
-      (falls : Bool) (ys : List ℕ) → length line ≡ p .width → Filled line falls ys → (c : ℕ) → c < p .width
+      (falls : Bool) (ys : List ℕ) → length line ≡ p .width → RowFilled line falls ys → (c : ℕ) → c < p .width
       → getD ys c 0 ≡ copiedPixel tray p falls c r
   unfolding copiedPixel
   filled-pixel falls ys long f c c-in =
       f .each c (omega arith)
       ∙ ap (λ (n : ℕ). getD line (mirrored falls n c) 0) long
-      ∙ line-pixel (mirrored falls (p .width) c) (mirrored-in falls (p .width) c c-in)
+      ∙ line-pixel (mirrored falls (p .width) c) (mirrored-below falls (p .width) c c-in)
 
 -- ---- from row to row, down or up
 
@@ -45,27 +47,33 @@ module _ (tray line : List ℕ) (p : Placement) (r : ℕ) (is : line ≡ take (p
 pub mirrored-room :
     (up : Bool) (p : Placement) (n m start : ℕ) → Placed p n → m < p .height → start ≡ rowStart p (mirrored up (p .height) m)
     → start + p .width ≤ n
-mirrored-room up p n m start placed m-in starts = omega (arith, row-room p n (mirrored up (p .height) m) placed (mirrored-in up (p .height) m m-in))
+mirrored-room up p n m start placed m-in starts = omega (arith, row-room p n (mirrored up (p .height) m) placed (mirrored-below up (p .height) m m-in))
 
 -- a step on from a row's start, modulo 2^64, is the next one's
 step-on :
     (up : Bool) (p : Placement) (n m : ℕ) → Placed p n → n < 2 ^ 64 → m + 1 < p .height
-    → (rowStart p (mirrored up (p .height) m) + stepOf up (p .stride)) % 2 ^ 64 ≡ rowStart p (mirrored up (p .height) (m + 1))
-unfolding mirrored stepOf
+    → (rowStart p (mirrored up (p .height) m) + rowStepOf up (p .stride)) % 2 ^ 64 ≡ rowStart p (mirrored up (p .height) (m + 1))
+unfolding rowStepOf
 step-on true p n m placed n-in m-in =
     let r = p .height - 1 - (m + 1) in
     let before : p .height - 1 - m ≡ r + 1 = omega arith in
+    let here = ap (rowStart p) (mirrored-falling (p .height) m ∙ before) in
     let small : rowStart p r < 2 ^ 64 = omega (arith, row-room p n r placed (omega arith)) in
-    let on : rowStart p (p .height - 1 - m) + (2 ^ 64 - p .stride) ≡ rowStart p r + 2 ^ 64 = rw before (omega (arith, placed .stride-most)) in
-    ap (λ (k : ℕ). k % 2 ^ 64) on ∙ add-mod-right (rowStart p r) (2 ^ 64) ∙ mod-eq-of-lt small
+    let on : rowStart p (mirrored true (p .height) m) + (2 ^ 64 - p .stride) ≡ rowStart p r + 2 ^ 64 =
+    omega (arith, here, row-next p r, placed .stride-most) in
+    ap (λ (k : ℕ). k % 2 ^ 64) on
+    ∙ add-mod-right (rowStart p r) (2 ^ 64)
+    ∙ mod-eq-of-lt small
+    ∙ ap (rowStart p) (sym (mirrored-falling (p .height) (m + 1)))
 step-on false p n m placed n-in m-in =
+    let here = ap (rowStart p) (mirrored-rising (p .height) m) in
     let small : rowStart p (m + 1) < 2 ^ 64 = omega (arith, row-room p n (m + 1) placed m-in) in
-    let on : rowStart p m + p .stride ≡ rowStart p (m + 1) = omega arith in
-    ap (λ (k : ℕ). k % 2 ^ 64) on ∙ mod-eq-of-lt small
+    let on : rowStart p (mirrored false (p .height) m) + p .stride ≡ rowStart p (m + 1) = omega (arith, here, row-next p m) in
+    ap (λ (k : ℕ). k % 2 ^ 64) on ∙ mod-eq-of-lt small ∙ ap (rowStart p) (sym (mirrored-rising (p .height) (m + 1)))
 
 pub stepped :
     (up : Bool) (p : Placement) (n m next start step : ℕ) → Placed p n → n < 2 ^ 64 → next ≡ m + 1 → next < p .height
-    → start ≡ rowStart p (mirrored up (p .height) m) → step ≡ stepOf up (p .stride)
+    → start ≡ rowStart p (mirrored up (p .height) m) → step ≡ rowStepOf up (p .stride)
     → (start + step) % 2 ^ 64 ≡ rowStart p (mirrored up (p .height) next)
 stepped up p n m next start step placed n-in after next-in starts steps =
     ap (λ (k : ℕ). (k + step) % 2 ^ 64) starts
@@ -116,6 +124,14 @@ module _ (tray : List ℕ) (t : Turn) where
       (λ i i-in k k-in. flipped .turned i k i-in k-in ∙ taken .each k k-in i i-in ∙ turned-is (a + i) (b + k) (omega arith))
 
 -- ---- a tile put row by row
+
+-- sixteen bytes of a tile were written to the target: whatever page they hold pixels of, these pixels of it are right
+record PutRow (tile : List ℕ) (at : ℕ) (t : Turn) (a b : ℕ) (before after : List ℕ) : Type 0 where
+  pub size : length after ≡ length before
+  pub part :
+      (page : ℕ → ℕ → ℕ)
+      → ((k : ℕ) → k < 16 → getD tile (at + k) 0 ≡ page (b + k) (mirrored (t .writeup) (t .target .height) a))
+      → Part page t a (a + 1) b (b + 16) before after
 
 -- sixteen bytes stored in a row, from its column b on
 module _
@@ -177,7 +193,7 @@ module _
         put-part =
             record {
               moved = subst (Moved (t .target) page before) back
-                  (row-moved (t .target) page before ys row placed (mirrored-in (t .writeup) (t .target .height) a a-in) long each);
+                  (row-moved (t .target) page before ys row placed (mirrored-below (t .writeup) (t .target .height) a a-in) long each);
               right = λ i from to k low high.
                   let same : a ≡ i = omega arith in
                   subst (λ (m : ℕ). Right (t .target) page after k (mirrored (t .writeup) (t .target .height) m)) same

@@ -1,7 +1,6 @@
--- A rectangle painted row by row, and a box of the page with it.
+-- A rectangle painted row by row.
 -- Assumes nothing.
 use mathlib.Core.Path.{_≡_, refl, sym, _∙_, ap, subst}
-use mathlib.Core.Bool.{Bool}
 use mathlib.Core.List.{List}
 use mathlib.Core.Logic.{by-cases}
 use Prim.Native.Nat.{ℕ, _+_, _-_, _*_, _≤_, _<_}
@@ -10,17 +9,17 @@ use native.Mathlib.Decide.{decLt}
 use native.Mathlib.Omega.{arith}
 use lib.ListN.{length, getD, replicate, length-replicate, getD-replicate}
 use borrow.Rule.Slice.PartMut.{midOf, putMid}
-use Rattle.tray.specs.declared.boxes.Rectangle.{Rectangle}
-use Rattle.tray.specs.Turned.{Within, acrossOf, turnedBox}
-use Rattle.tray.specs.Promises.{Painted, OnPage, BoxPainted}
-use Rattle.tray.specs.Laws.{OnCompact, cell-below, on-compact, box-painted}
+use Rattle.tray.specs.declared.Rectangle.{Rectangle}
+use Rattle.tray.specs.Turned.{InRectangle}
+use Rattle.tray.specs.Promises.{RectanglePainted}
+use Rattle.tray.specs.Laws.{cell-below}
 use Rattle.tray.proofs.Lent.{part-length, lent-length, lent-below, lent-within, lent-above}
 
 abbrev pub rows : ℕ → ℕ → ℕ → ℕ → Rectangle
 rows top left right r = record { top = top; bottom = r; left = left; right = right }
 
 -- so far no row is painted
-pub painted-none : (w top left right value : ℕ) (page : List ℕ) → Painted w (rows top left right top) value page page
+pub painted-none : (w top left right value : ℕ) (page : List ℕ) → RectanglePainted w (rows top left right top) value page page
 painted-none w top left right value page =
     record { size = refl; painted = λ a b i. absurd (omega (arith, i .below-top, i .above-bottom)); kept = λ a b b-in out. refl }
 
@@ -28,8 +27,8 @@ module _ (w top left right value r : ℕ) (before page ys : List ℕ) where
   -- one row more
   painted-more :
       top ≤ r → left ≤ right → right ≤ w → (r + 1) * w ≤ length page → length ys ≡ right - left
-      → ((k : ℕ) → k < right - left → getD ys k 0 ≡ value) → Painted w (rows top left right r) value before page
-      → Painted w (rows top left right (r + 1)) value before (putMid (r * w + left) (right - left) page ys)
+      → ((k : ℕ) → k < right - left → getD ys k 0 ≡ value) → RectanglePainted w (rows top left right r) value before page
+      → RectanglePainted w (rows top left right (r + 1)) value before (putMid (r * w + left) (right - left) page ys)
   painted-more top-in wide right-in room long all so-far =
       let fits : r * w + left + (right - left) ≤ length page = omega arith in
       record {
@@ -45,14 +44,14 @@ module _ (w top left right value r : ℕ) (before page ys : List ℕ) where
       earlier a b l b-in =
           lent-below (r * w + left) (right - left) page ys room-now long (a * w + b) (omega (arith, cell-below a b r w l b-in))
 
-      before-now : (a b : ℕ) → a < r → Within (rows top left right (r + 1)) a b → Within (rows top left right r) a b
+      before-now : (a b : ℕ) → a < r → InRectangle (rows top left right (r + 1)) a b → InRectangle (rows top left right r) a b
       before-now a b l i = record { below-top = i .below-top; above-bottom = l; from-left = i .from-left; before-right = i .before-right }
 
-      later : (a b : ℕ) → Within (rows top left right r) a b → Within (rows top left right (r + 1)) a b
+      later : (a b : ℕ) → InRectangle (rows top left right r) a b → InRectangle (rows top left right (r + 1)) a b
       later a b i =
           record { below-top = i .below-top; above-bottom = omega (arith, i .above-bottom); from-left = i .from-left; before-right = i .before-right }
 
-      here : (a b : ℕ) → Within (rows top left right (r + 1)) a b → a ≡ r → getD (putMid (r * w + left) (right - left) page ys) (a * w + b) 0 ≡ value
+      here : (a b : ℕ) → InRectangle (rows top left right (r + 1)) a b → a ≡ r → getD (putMid (r * w + left) (right - left) page ys) (a * w + b) 0 ≡ value
       here a b i e =
           let at : a * w + b ≡ r * w + left + (b - left) = rw e (omega (arith, i .from-left)) in
           let in-part : b - left < right - left = omega (arith, i .from-left, i .before-right) in
@@ -61,7 +60,7 @@ module _ (w top left right value r : ℕ) (before page ys : List ℕ) where
           ∙ all (b - left) in-part
 
       untouched :
-          (a b : ℕ) → b < w → (Within (rows top left right (r + 1)) a b → ⊥)
+          (a b : ℕ) → b < w → (InRectangle (rows top left right (r + 1)) a b → ⊥)
           → getD (putMid (r * w + left) (right - left) page ys) (a * w + b) 0 ≡ getD page (a * w + b) 0
       untouched a b b-in out =
           by-cases (decLt a r) (λ l. earlier a b l b-in)
@@ -82,31 +81,13 @@ module _ (w top left right value r : ℕ) (before page ys : List ℕ) where
 pub painted-row :
     (w top left right value r at n : ℕ) (before page ys : List ℕ) → ys ≡ replicate (length (midOf at n page)) value → at ≡ r * w + left
     → n ≡ right - left → top ≤ r → left ≤ right → right ≤ w → (r + 1) * w ≤ length page
-    → Painted w (rows top left right r) value before page → Painted w (rows top left right (r + 1)) value before (putMid at n page ys)
+    → RectanglePainted w (rows top left right r) value before page → RectanglePainted w (rows top left right (r + 1)) value before (putMid at n page ys)
 painted-row w top left right value r at n before page ys filled starts wide top-in left-in right-in room so-far =
     let part : length (midOf at n page) ≡ right - left = part-length at n page (omega arith) ∙ wide in
     let whole : ys ≡ replicate (right - left) value = filled ∙ ap (λ (k : ℕ). replicate k value) part in
-    subst (λ (k : ℕ). Painted w (rows top left right (r + 1)) value before (putMid k n page ys)) (sym starts)
-    (subst (λ (k : ℕ). Painted w (rows top left right (r + 1)) value before (putMid (r * w + left) k page ys)) (sym wide)
+    subst (λ (k : ℕ). RectanglePainted w (rows top left right (r + 1)) value before (putMid k n page ys)) (sym starts)
+    (subst (λ (k : ℕ). RectanglePainted w (rows top left right (r + 1)) value before (putMid (r * w + left) k page ys)) (sym wide)
     (painted-more w top left right value r before page ys top-in left-in right-in room
     (ap length whole ∙ length-replicate (right - left) value)
     (λ k k-in. ap (λ (zs : List ℕ). getD zs k 0) whole ∙ getD-replicate (right - left) k value 0 k-in)
     so-far))
-
--- ---- a box, by the rectangle that it was turned into
-
-module _
-    (steep falls : Bool) (width height : ℕ) (x : Rectangle) (on : OnPage x width height) (y : Rectangle) (w : ℕ)
-    (turned : y ≡ turnedBox steep falls width height x) (across : w ≡ acrossOf steep width height)
-  where
-    pub on-compact-as : (n : ℕ) → width * height ≤ n → OnCompact y w n
-    on-compact-as n room =
-        subst (λ (v : ℕ). OnCompact y v n) (sym across)
-        (subst (λ (z : Rectangle). OnCompact z (acrossOf steep width height) n) (sym turned) (on-compact steep falls width height x on n room))
-
-    pub box-painted-as :
-        (value : ℕ) (before after : List ℕ) → Painted w y value before after → BoxPainted steep falls width height x value before after
-    box-painted-as value before after p =
-        box-painted steep falls width height x on value before after
-        (subst (λ (v : ℕ). Painted v (turnedBox steep falls width height x) value before after) across
-        (subst (λ (z : Rectangle). Painted w z value before after) turned p))

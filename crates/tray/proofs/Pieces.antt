@@ -5,7 +5,6 @@ use mathlib.Core.Bool.{Bool, true, false, cond, true≢false}
 use mathlib.Core.List.{List}
 use mathlib.Core.Logic.{by-cases, _⊎_, inl, inr, ⊎-elim}
 use Prim.Native.Nat.{ℕ, _+_, _-_, _≤_, _<_}
-use native.Mathlib.Nat.{mul-le-mul-right}
 use native.Mathlib.Decide.{decLt}
 use native.Mathlib.Omega.{arith}
 use lib.ListN.{length, getD, take, drop, set, length-set}
@@ -16,10 +15,42 @@ use Rattle.tray.specs.declared.turn.Turn.{Turn}
 use Rattle.tray.specs.Placement.{rowStart, byteOf}
 use Rattle.tray.specs.Written.{columnOf, rowOf, inside, written}
 use Rattle.geometry.specs.Drift.{mirrored}
+use Rattle.geometry.specs.Laws.{mirrored-below, mirrored-twice}
 use Rattle.tray.specs.Promises.{Placed}
 use Rattle.tray.specs.Pieces.{Right, Moved, Turnable, Stored, Part}
-use Rattle.tray.specs.Laws.{row-room, byte-is, inside-byte, length-written, written-at, moved-none, moved-then, moved-length, moved-all, mirrored-in, mirrored-twice}
+use Rattle.tray.specs.Laws.{row-room, rows-apart, byte-is, inside-byte, inside-pixel, length-written, written-at}
 use Rattle.tray.proofs.Lent.{lent-length, lent-below, lent-within, lent-above}
+
+-- ---- changes of a tray, one after the other
+
+module _ (p : Placement) (page : ℕ → ℕ → ℕ) where
+  pub moved-none : (tray : List ℕ) → Moved p page tray tray
+  moved-none tray = record { outside = refl; kept = λ c r c-in r-in h. h }
+
+  pub moved-then : (a b d : List ℕ) → Moved p page a b → Moved p page b d → Moved p page a d
+  moved-then a b d one two =
+      record {
+        outside = two .outside ∙ one .outside;
+        kept = λ c r c-in r-in h. two .kept c r c-in r-in (one .kept c r c-in r-in h);
+      }
+
+  pub moved-length : (a b : List ℕ) → Moved p page a b → length b ≡ length a
+  moved-length a b m = sym (length-written p page b) ∙ ap length (m .outside) ∙ length-written p page a
+
+  -- with every pixel right, the page is written
+  pub moved-all :
+      (before after : List ℕ) → Moved p page before after
+      → ((r : ℕ) → r < p .height → (c : ℕ) → c < p .width → Right p page after c r) → after ≡ written p page before
+  moved-all before after m all = ext-getD 0 after (written p page after) (sym (length-written p page after)) each ∙ m .outside
+    where
+      same : (i : ℕ) (b : Bool) → inside p i ≡ b → cond b (page (columnOf p i) (rowOf p i)) (getD after i 0) ≡ getD after i 0
+      same i true h =
+          let x = inside-pixel p i h in
+          sym (all (rowOf p i) (x .row) (columnOf p i) (x .column)) ∙ ap (λ (k : ℕ). getD after k 0) (x .byte)
+      same i false h = refl
+
+      each : (i : ℕ) → i < length after → getD after i 0 ≡ getD (written p page after) i 0
+      each i l = sym (written-at p page after i l ∙ same i (inside p i) refl)
 
 -- ---- one row
 
@@ -54,14 +85,14 @@ module _
         (λ past. above-row i (omega arith)))
 
     -- a pixel of another row is as it was
-    other-row : (c k : ℕ) → c < q .width → (k ≡ r → ⊥) → getD (putMid (rowStart q r) (q .width) tray ys) (byteOf q c k) 0 ≡ getD tray (byteOf q c k) 0
-    other-row c k c-in other =
-        let wide : c < q .stride = omega (arith, placed .stride-least) in
-        by-cases (decLt k r)
-        (λ l. below-row (byteOf q c k) (omega (arith, byte-is q c k, mul-le-mul-right (q .stride) l)))
-        (λ g.
-        let l : r < k = omega arith in
-        above-row (byteOf q c k) (omega (arith, byte-is q c k, mul-le-mul-right (q .stride) l, placed .stride-least)))
+    other-row :
+        (c k : ℕ) → c < q .width → k < q .height → (k ≡ r → ⊥)
+        → getD (putMid (rowStart q r) (q .width) tray ys) (byteOf q c k) 0 ≡ getD tray (byteOf q c k) 0
+    other-row c k c-in k-in other =
+        ⊎-elim
+        (λ (l : rowStart q k + q .width ≤ rowStart q r). below-row (byteOf q c k) (omega (arith, byte-is q c k)))
+        (λ (l : rowStart q r + q .width ≤ rowStart q k). above-row (byteOf q c k) (omega (arith, byte-is q c k)))
+        (rows-apart q (length tray) k r placed k-in r-in other)
 
     pub row-right : (c : ℕ) → c < q .width → getD ys c 0 ≡ page c r → Right q page (putMid (rowStart q r) (q .width) tray ys) c r
     row-right c c-in e = at-row c c-in ∙ e
@@ -73,7 +104,12 @@ module _
     row-moved each =
         record {
           outside = ext-getD 0 (written q page after) (written q page tray) (length-written q page after ∙ sized ∙ sym (length-written q page tray)) same;
-          kept = λ c k c-in k-in h. by-cases (decLt k r) (λ l. other-row c k c-in (λ e. omega arith) ∙ h) (λ g. by-cases (decLt r k) (λ l. other-row c k c-in (λ e. omega arith) ∙ h) (λ m. here c k c-in (omega arith) h));
+          kept = λ c k c-in k-in h.
+              by-cases (decLt k r)
+              (λ l. other-row c k c-in k-in (λ e. omega arith) ∙ h)
+              (λ g. by-cases (decLt r k)
+              (λ l. other-row c k c-in k-in (λ e. omega arith) ∙ h)
+              (λ m. here c k c-in (omega arith) h));
         }
       where
         after : List ℕ
@@ -185,7 +221,7 @@ module _
         }
       where
         r-in : r < t .target .height
-        r-in = subst (λ (m : ℕ). m < t .target .height) (sym is) (mirrored-in (t .writeup) (t .target .height) a a-in)
+        r-in = subst (λ (m : ℕ). m < t .target .height) (sym is) (mirrored-below (t .writeup) (t .target .height) a a-in)
 
         old : (c : ℕ) → c < t .target .width → getD (take (t .target .width) (drop (rowStart (t .target) r) before)) c 0 ≡ getD before (byteOf (t .target) c r) 0
         old c c-in =
@@ -230,7 +266,7 @@ module _ (t : Turn) (page : ℕ → ℕ → ℕ) where
         → Right (t .target) page y k (mirrored (t .writeup) (t .target .height) i)
         → Right (t .target) page z k (mirrored (t .writeup) (t .target .height) i)
     still-right e f e-in f-in m i i-in k k-in h =
-        m .kept k (mirrored (t .writeup) (t .target .height) i) (omega arith) (mirrored-in (t .writeup) (t .target .height) i (omega arith)) h
+        m .kept k (mirrored (t .writeup) (t .target .height) i) (omega arith) (mirrored-below (t .writeup) (t .target .height) i (omega arith)) h
 
     pub join-down :
         (a e g b f : ℕ) → e ≤ t .target .height → f ≤ t .target .width → Part page t a e b f x y → Part page t e g b f y z
@@ -265,7 +301,7 @@ module _ (t : Turn) (page : ℕ → ℕ → ℕ) where
       (λ r r-in c c-in.
       let i = mirrored (t .writeup) (t .target .height) r in
       subst (λ (m : ℕ). Right (t .target) page after c m) (mirrored-twice (t .writeup) (t .target .height) r r-in)
-      (p .right i (omega arith) (mirrored-in (t .writeup) (t .target .height) r r-in) c (omega arith) c-in))
+      (p .right i (omega arith) (mirrored-below (t .writeup) (t .target .height) r r-in) c (omega arith) c-in))
 
 -- the target's tray keeps its length
 pub turnable-still : (t : Turn) (n m k : ℕ) → k ≡ m → Turnable t n m → Turnable t n k

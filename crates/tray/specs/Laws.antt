@@ -1,36 +1,29 @@
--- Laws of the definitions, for those who build on pages in trays.
+-- Laws of the definitions, for those who build on pages in trays. What follows from where a row starts (rowStart) stands
+-- in the first two sections; nothing after them opens it, but for the byte of a compact page.
 -- Assumes nothing.
 use mathlib.Core.Path.{_≡_, refl, sym, _∙_, ap, subst}
-use mathlib.Core.Logic.{by-cases}
+use mathlib.Core.Logic.{by-cases, _⊎_, inl, inr}
 use mathlib.Core.Bool.{Bool, true, false, _&&_, cond, and-eq-true-iff}
 use mathlib.Core.List.{List, [], _∷_, _++_}
-use Prim.Native.Nat.{ℕ, zero, suc, _+_, _-_, _*_, _/_, _%_, _≤_, _<_}
-use native.Mathlib.Nat.{
-  add-zero,
-  mul-le-mul-right,
-  mul-comm,
-  mod-eq-of-lt,
-  mod-lt,
-  div-eq-of-lt,
-  mul-add-mod-self-right,
-  mul-add-div-right,
-  div-add-mod',
-  le-div-iff-mul-le,
-}
+use Prim.Native.Nat.{ℕ, zero, suc, _+_, _-_, _*_, _/_, _%_, _≤_, _<_, max}
+use native.Mathlib.Nat.{add-zero, mul-le-mul-right, mul-comm, mul-assoc, suc-mul, mod-eq-of-lt, div-eq-of-lt, div-add-mod'}
+use native.Mathlib.Nat.{mul-add-mod-self-right, mul-add-div-right}
 use native.Mathlib.Decide.{decLt}
 use native.Mathlib.Omega.{arith}
-use lib.ListN.{length, getD, take, drop, replicate, length-append, length-replicate, length-drop, getD-replicate, List·getD-append, List·getD-eq-default}
+use lib.ListN.{length, getD, take, drop, replicate, length-append, length-replicate, length-drop, getD-replicate}
+use lib.ListN.{List·getD-append, List·getD-eq-default}
 use lib.Seq.{ext-getD, getD-take, getD-drop, getD-append-add}
 use lib.Dec.{leb, ltb}
 use borrow.Author.Tests.{leb-true, ltb-true, le-leb, lt-ltb}
-use Rattle.tray.specs.declared.Placement.{Placement}
-use Rattle.tray.specs.Placement.{rowStart, byteOf, pixelIn, sideAllowed, allowed, fits}
-use Rattle.tray.specs.Written.{columnOf, rowOf, inside, writtenFrom, written, cleared}
-use Rattle.tray.specs.declared.boxes.Rectangle.{Rectangle}
-use Rattle.tray.specs.Promises.{Placed, Painted, OnPage, BoxPainted}
-use Rattle.tray.specs.Pieces.{Right, Moved}
 use Rattle.geometry.specs.Drift.{mirrored}
-use Rattle.tray.specs.Turned.{downOf, acrossOf, compactColumn, compactAt, pageColumn, pageRow, compactOf, Within, mirroredFrom, mirroredTo, turnedBox}
+use Rattle.geometry.specs.Laws.{mirrored-below, mirrored-twice}
+use Rattle.tray.specs.declared.Layout.{Layout}
+use Rattle.tray.specs.declared.Placement.{Placement}
+use Rattle.tray.specs.Placement.{rowStart, byteOf, pixelIn, sideAllowed, allowed, fits, scratchNeeded}
+use Rattle.tray.specs.Written.{columnOf, rowOf, inside, writtenFrom, written, cleared}
+use Rattle.tray.specs.Promises.{Placed}
+use Rattle.tray.specs.Turned.{downOf, acrossOf, compactWidth, compactHeight, compactRow, compactColumn, compactAt}
+use Rattle.tray.specs.Turned.{pageColumn, pageRow, compactOf}
 
 -- ---- pages that fit, and their rows
 
@@ -55,12 +48,32 @@ placed p n ok room =
 
 -- each row of a page that fits lies in the tray
 pub row-room : (p : Placement) (n r : ℕ) → Placed p n → r < p .height → rowStart p r + p .width ≤ n
+unfolding rowStart
 row-room p n r h l =
     let steps : r ≤ p .height - 1 = omega arith in
     omega (arith, mul-le-mul-right (p .stride) steps, h .fitting)
 
+-- two rows of it do not overlap
+pub rows-apart :
+    (p : Placement) (n r k : ℕ) → Placed p n → r < p .height → k < p .height → (r ≡ k → ⊥)
+    → (rowStart p r + p .width ≤ rowStart p k) ⊎ (rowStart p k + p .width ≤ rowStart p r)
+unfolding rowStart
+rows-apart p n r k h r-in k-in other =
+    by-cases (decLt r k)
+    (λ l. inl (omega (arith, mul-le-mul-right (p .stride) l, h .stride-least)))
+    (λ g.
+    let l : k < r = omega arith in
+    inr (omega (arith, mul-le-mul-right (p .stride) l, h .stride-least)))
+
+-- from one row to the next it is a stride
+pub row-next : (p : Placement) (r : ℕ) → rowStart p (r + 1) ≡ rowStart p r + p .stride
+unfolding rowStart
+row-next p r = omega arith
+
 -- a row, handed out as a part of the tray, holds the row's pixels
-pub row-pixel : (tray : List ℕ) (p : Placement) (c r : ℕ) → c < p .width → getD (take (p .width) (drop (rowStart p r) tray)) c 0 ≡ pixelIn tray p c r
+pub row-pixel :
+    (tray : List ℕ) (p : Placement) (c r : ℕ) → c < p .width
+    → getD (take (p .width) (drop (rowStart p r) tray)) c 0 ≡ pixelIn tray p c r
 unfolding pixelIn byteOf
 row-pixel tray p c r l = rw (getD-take, getD-drop)
 
@@ -70,21 +83,26 @@ pub byte-is : (p : Placement) (c r : ℕ) → byteOf p c r ≡ rowStart p r + c
 unfolding byteOf
 byte-is p c r = refl
 
+-- a pixel's byte lies in the tray
+pub byte-below : (p : Placement) (n c r : ℕ) → Placed p n → c < p .width → r < p .height → byteOf p c r < n
+byte-below p n c r h c-in r-in = omega (arith, byte-is p c r, row-room p n r h r-in)
+
 byte-from : (p : Placement) (c r : ℕ) → p .offset ≤ byteOf p c r
-unfolding byteOf
+unfolding byteOf rowStart
 byte-from p c r = omega arith
 
 module _ (p : Placement) (c r : ℕ) (wide : c < p .stride) where
+  gone : byteOf p c r - p .offset ≡ r * p .stride + c
+  unfolding byteOf rowStart
+  gone = omega arith
+
   column-of-byte : columnOf p (byteOf p c r) ≡ c
-  unfolding columnOf byteOf
-  column-of-byte =
-      let gone : rowStart p r + c - p .offset ≡ r * p .stride + c = omega arith in
-      rw gone (mul-add-mod-self-right r (p .stride) c ∙ mod-eq-of-lt wide)
+  unfolding columnOf
+  column-of-byte = rw gone (mul-add-mod-self-right r (p .stride) c ∙ mod-eq-of-lt wide)
 
   row-of-byte : rowOf p (byteOf p c r) ≡ r
-  unfolding rowOf byteOf
+  unfolding rowOf
   row-of-byte =
-      let gone : rowStart p r + c - p .offset ≡ r * p .stride + c = omega arith in
       let some : 0 < p .stride = omega arith in
       rw gone (mul-add-div-right some r c ∙ (rw (div-eq-of-lt wide) (add-zero r)))
 
@@ -95,6 +113,17 @@ module _ (p : Placement) (c r : ℕ) (wide : c < p .stride) where
       let r-now : rowOf p (byteOf p c r) < p .height = rw row-of-byte r-in in
       rw (le-leb _ _ (byte-from p c r), lt-ltb _ _ c-now, lt-ltb _ _ r-now)
 
+-- two pixels with the same byte are the same pixel
+module _ (p : Placement) (n c r c′ r′ : ℕ) (h : Placed p n) where
+  pub byte-same :
+      c < p .width → r < p .height → c′ < p .width → r′ < p .height → byteOf p c r ≡ byteOf p c′ r′ → (c ≡ c′) × (r ≡ r′)
+  byte-same c-in r-in c′-in r′-in e =
+      let wide : c < p .stride = omega (arith, h .stride-least) in
+      let wide′ : c′ < p .stride = omega (arith, h .stride-least) in (
+        sym (column-of-byte p c r wide) ∙ ap (columnOf p) e ∙ column-of-byte p c′ r′ wide′,
+        sym (row-of-byte p c r wide) ∙ ap (rowOf p) e ∙ row-of-byte p c′ r′ wide′,
+      )
+
 -- a byte of the page is the byte of a pixel
 pub record PixelOf (p : Placement) (i : ℕ) : Type 0 where
   pub column : columnOf p i < p .width
@@ -102,9 +131,10 @@ pub record PixelOf (p : Placement) (i : ℕ) : Type 0 where
   pub byte : byteOf p (columnOf p i) (rowOf p i) ≡ i
 
 pub inside-pixel : (p : Placement) (i : ℕ) → inside p i ≡ true → PixelOf p i
-unfolding inside byteOf columnOf rowOf
+unfolding inside byteOf rowStart columnOf rowOf
 inside-pixel p i h =
-    let parts = and-eq-true-iff (leb (p .offset) i) (ltb (columnOf p i) (p .width) && ltb (rowOf p i) (p .height)) .0 h in
+    let within = ltb (columnOf p i) (p .width) && ltb (rowOf p i) (p .height) in
+    let parts = and-eq-true-iff (leb (p .offset) i) within .0 h in
     let sides = and-eq-true-iff (ltb (columnOf p i) (p .width)) (ltb (rowOf p i) (p .height)) .0 (parts .1) in
     let from : p .offset ≤ i = leb-true (p .offset) i (parts .0) in
     let away : p .offset + (i - p .offset) ≡ i = omega arith in
@@ -113,6 +143,16 @@ inside-pixel p i h =
       row = ltb-true _ _ (sides .1);
       byte = omega (arith, away, div-add-mod' (i - p .offset) (p .stride));
     }
+
+-- past the bytes that a page needs there is nothing of it
+pub outside-past : (p : Placement) (n i : ℕ) → Placed p n → n ≤ i → inside p i ≡ false
+outside-past p n i h past = by-place (inside p i) refl
+  where
+    by-place : (b : Bool) → inside p i ≡ b → b ≡ false
+    by-place true e =
+        let x = inside-pixel p i e in
+        absurd (omega (arith, x .byte, byte-below p n (columnOf p i) (rowOf p i) h (x .column) (x .row)))
+    by-place false e = refl
 
 -- ---- a tray with a page written into it
 
@@ -180,36 +220,19 @@ written-same p one two tray same =
         let here : i < length tray = omega (arith, length-written p one tray) in
         written-at p one tray i here ∙ by-place i (inside p i) refl ∙ sym (written-at p two tray i here)
 
--- ---- a page written piece by piece
+-- ---- the scratch
 
-module _ (p : Placement) (page : ℕ → ℕ → ℕ) where
-  pub moved-none : (tray : List ℕ) → Moved p page tray tray
-  moved-none tray = record { outside = refl; kept = λ c r c-in r-in h. h }
+-- room for one page more
+pub scratch-more : (n w h : ℕ) → scratchNeeded (suc n) w h ≡ scratchNeeded n w h + w * h
+unfolding scratchNeeded
+scratch-more n w h = omega (arith, mul-assoc (suc n) w h, mul-assoc n w h, suc-mul n (w * h))
 
-  pub moved-then : (a b d : List ℕ) → Moved p page a b → Moved p page b d → Moved p page a d
-  moved-then a b d one two =
-      record { outside = two .outside ∙ one .outside; kept = λ c r c-in r-in h. two .kept c r c-in r-in (one .kept c r c-in r-in h) }
+-- the pages come first
+pub scratch-pages : (n w h : ℕ) → n * (w * h) ≤ scratchNeeded n w h
+unfolding scratchNeeded
+scratch-pages n w h = omega (arith, mul-assoc n w h)
 
-  pub moved-length : (a b : List ℕ) → Moved p page a b → length b ≡ length a
-  moved-length a b m = sym (length-written p page b) ∙ ap length (m .outside) ∙ length-written p page a
-
-  -- with every pixel right, the page is written
-  pub moved-all :
-      (before after : List ℕ) → Moved p page before after
-      → ((r : ℕ) → r < p .height → (c : ℕ) → c < p .width → Right p page after c r) → after ≡ written p page before
-  moved-all before after m all = ext-getD 0 after (written p page after) (sym (length-written p page after)) each ∙ m .outside
-    where
-      same : (i : ℕ) (b : Bool) → inside p i ≡ b → cond b (page (columnOf p i) (rowOf p i)) (getD after i 0) ≡ getD after i 0
-      same i true h =
-          let x = inside-pixel p i h in
-          sym (all (rowOf p i) (x .row) (columnOf p i) (x .column)) ∙ ap (λ (k : ℕ). getD after k 0) (x .byte)
-      same i false h = refl
-
-      each : (i : ℕ) → i < length after → getD after i 0 ≡ getD (written p page after) i 0
-      each i l = sym (written-at p page after i l ∙ same i (inside p i) refl)
-
--- ---- the scratch, cleared
-
+-- the scratch, cleared
 pub length-cleared : (n : ℕ) (scratch : List ℕ) → n ≤ length scratch → length (cleared n scratch) ≡ length scratch
 unfolding cleared
 length-cleared n scratch h = simp (length-append, length-replicate, length-drop) (omega arith)
@@ -231,17 +254,6 @@ cleared-above n scratch i l =
     ∙ ap (λ (k : ℕ). getD scratch k 0) back
 
 -- ---- the compact page
-
-pub mirrored-in : (falls : Bool) (w m : ℕ) → m < w → mirrored falls w m < w
-unfolding mirrored
-mirrored-in true w m l = omega arith
-mirrored-in false w m l = l
-
--- mirroring twice is no mirroring; so different columns go to different columns
-pub mirrored-twice : (falls : Bool) (w m : ℕ) → m < w → mirrored falls w (mirrored falls w m) ≡ m
-unfolding mirrored
-mirrored-twice true w m l = omega arith
-mirrored-twice false w m l = refl
 
 module _ (steep : Bool) (c r width height : ℕ) (c-in : c < width) (r-in : r < height) where
   pub across-in : acrossOf steep c r < acrossOf steep width height
@@ -278,7 +290,10 @@ pub record SameCell (a b a′ b′ : ℕ) : Type 0 where
 pub cell-same : (w a b a′ b′ : ℕ) → b < w → b′ < w → a * w + b ≡ a′ * w + b′ → SameCell a b a′ b′
 cell-same w a b a′ b′ b-in b′-in e =
     let some : 0 < w = omega arith in
-    record { row = sym (row-of some a b b-in) ∙ ap (λ (k : ℕ). k / w) e ∙ row-of some a′ b′ b′-in; column = sym (column-of a b b-in) ∙ ap (λ (k : ℕ). k % w) e ∙ column-of a′ b′ b′-in }
+    record {
+      row = sym (row-of some a b b-in) ∙ ap (λ (k : ℕ). k / w) e ∙ row-of some a′ b′ b′-in;
+      column = sym (column-of a b b-in) ∙ ap (λ (k : ℕ). k % w) e ∙ column-of a′ b′ b′-in;
+    }
   where
     row-of : 0 < w → (a b : ℕ) → b < w → (a * w + b) / w ≡ a
     row-of some a b l = mul-add-div-right some a b ∙ (rw (div-eq-of-lt l) (add-zero a))
@@ -286,177 +301,80 @@ cell-same w a b a′ b′ b-in b′-in e =
     column-of : (a b : ℕ) → b < w → (a * w + b) % w ≡ b
     column-of a b l = mul-add-mod-self-right a w b ∙ mod-eq-of-lt l
 
-module _ (steep falls : Bool) (width height c r : ℕ) (c-in : c < width) (r-in : r < height) where
-  pub compact-column-in : compactColumn steep falls width height c r < acrossOf steep width height
+module _ (lay : Layout) (c r : ℕ) (c-in : c < lay .width) (r-in : r < lay .height) where
+  pub compact-row-in : compactRow lay c r < compactHeight lay
+  compact-row-in = down-in (lay .steep) c r (lay .width) (lay .height) c-in r-in
+
+  pub compact-column-in : compactColumn lay c r < compactWidth lay
   unfolding compactColumn
-  compact-column-in = mirrored-in falls _ _ (across-in steep c r width height c-in r-in)
+  compact-column-in = mirrored-below (lay .falls) _ _ (across-in (lay .steep) c r (lay .width) (lay .height) c-in r-in)
 
   -- the compact page takes width * height bytes
-  pub compact-below : compactAt steep falls width height c r < width * height
+  pub compact-below : compactAt lay c r < lay .width * lay .height
   unfolding compactAt
   compact-below =
-      let here = cell-below _ _ _ _ (down-in steep c r width height c-in r-in) compact-column-in in
-      rw (sides-product steep width height) at here
+      let here = cell-below _ _ _ _ compact-row-in compact-column-in in
+      rw (sides-product (lay .steep) (lay .width) (lay .height)) at here
 
 -- different pixels have different bytes
-module _ (steep falls : Bool) (width height c r c′ r′ : ℕ) where
+module _ (lay : Layout) (c r c′ r′ : ℕ) where
   pub compact-same :
-      c < width → r < height → c′ < width → r′ < height
-      → compactAt steep falls width height c r ≡ compactAt steep falls width height c′ r′ → (c ≡ c′) × (r ≡ r′)
+      c < lay .width → r < lay .height → c′ < lay .width → r′ < lay .height → compactAt lay c r ≡ compactAt lay c′ r′
+      → (c ≡ c′) × (r ≡ r′)
   unfolding compactAt compactColumn downOf acrossOf
   compact-same c-in r-in c′-in r′-in e =
-      let across = across-in steep c r width height c-in r-in in
-      let across′ = across-in steep c′ r′ width height c′-in r′-in in
-      let cell = cell-same _ _ _ _ _ (mirrored-in falls _ _ across) (mirrored-in falls _ _ across′) e in
-      by-way steep (cell .row)
-      (sym (mirrored-twice falls _ _ across) ∙ ap (mirrored falls (acrossOf steep width height)) (cell .column) ∙ mirrored-twice falls _ _ across′)
+      let falls = lay .falls in
+      let across = across-in (lay .steep) c r (lay .width) (lay .height) c-in r-in in
+      let across′ = across-in (lay .steep) c′ r′ (lay .width) (lay .height) c′-in r′-in in
+      let cell = cell-same _ _ _ _ _ (mirrored-below falls _ _ across) (mirrored-below falls _ _ across′) e in
+      by-way (lay .steep) (cell .row)
+      (sym (mirrored-twice falls _ _ across)
+      ∙ ap (mirrored falls (compactWidth lay)) (cell .column)
+      ∙ mirrored-twice falls _ _ across′)
     where
-      by-way : (steep : Bool) → downOf steep c r ≡ downOf steep c′ r′ → acrossOf steep c r ≡ acrossOf steep c′ r′ → (c ≡ c′) × (r ≡ r′)
+      by-way :
+          (steep : Bool) → downOf steep c r ≡ downOf steep c′ r′ → acrossOf steep c r ≡ acrossOf steep c′ r′
+          → (c ≡ c′) × (r ≡ r′)
       by-way true down across = (across, down)
       by-way false down across = (down, across)
 
 -- each place of the compact page is a pixel's
-pub record PixelAt (steep falls : Bool) (width height a b c r : ℕ) : Type 0 where
-  pub column-in : c < width
-  pub row-in : r < height
-  pub down : downOf steep c r ≡ a
-  pub across : compactColumn steep falls width height c r ≡ b
+pub record PixelAt (lay : Layout) (a b c r : ℕ) : Type 0 where
+  pub column-in : c < lay .width
+  pub row-in : r < lay .height
+  pub down : compactRow lay c r ≡ a
+  pub across : compactColumn lay c r ≡ b
 
-module _ (falls : Bool) (width height a b : ℕ) where
-  pub compact-pixel :
-      (steep : Bool) → a < downOf steep width height → b < acrossOf steep width height
-      → PixelAt steep falls width height a b (pageColumn steep falls width height a b) (pageRow steep falls width height a b)
-  unfolding pageColumn pageRow compactColumn downOf acrossOf
-  compact-pixel true a-in b-in =
-      record { column-in = mirrored-in falls width b b-in; row-in = a-in; down = refl; across = mirrored-twice falls width b b-in }
-  compact-pixel false a-in b-in =
-      record { column-in = a-in; row-in = mirrored-in falls height b b-in; down = refl; across = mirrored-twice falls height b b-in }
+-- the same sides, with lines that are steep, or not
+abbrev pub laidSo : Layout → Bool → Layout
+laidSo lay steep = record { steep = steep; falls = lay .falls; width = lay .width; height = lay .height }
+
+pub compact-pixel :
+    (lay : Layout) (a b : ℕ) → a < compactHeight lay → b < compactWidth lay
+    → PixelAt lay a b (pageColumn lay a b) (pageRow lay a b)
+unfolding pageColumn pageRow compactColumn downOf acrossOf
+compact-pixel lay a b = by-way (lay .steep)
+  where
+    by-way :
+        (steep : Bool) → a < compactHeight (laidSo lay steep) → b < compactWidth (laidSo lay steep)
+        → PixelAt (laidSo lay steep) a b (pageColumn (laidSo lay steep) a b) (pageRow (laidSo lay steep) a b)
+    by-way true a-in b-in =
+        record {
+          column-in = mirrored-below (lay .falls) (lay .width) b b-in;
+          row-in = a-in;
+          down = refl;
+          across = mirrored-twice (lay .falls) (lay .width) b b-in;
+        }
+    by-way false a-in b-in =
+        record {
+          column-in = a-in;
+          row-in = mirrored-below (lay .falls) (lay .height) b b-in;
+          down = refl;
+          across = mirrored-twice (lay .falls) (lay .height) b b-in;
+        }
 
 -- the compact page is a page of its own: the byte of its column b, row a
 pub compact-byte :
-    (steep falls : Bool) (p : Placement) (c r : ℕ)
-    → byteOf (compactOf steep p) (compactColumn steep falls (p .width) (p .height) c r) (downOf steep c r)
-    ≡ compactAt steep falls (p .width) (p .height) c r
-unfolding byteOf compactOf compactAt
-compact-byte steep falls p c r = omega arith
-
--- ---- boxes on the compact page
-
-mirrored-between :
-    (falls : Bool) (w m n k : ℕ) → n ≤ w → k < w → m ≤ k → k < n
-    → (mirroredFrom falls w m n ≤ mirrored falls w k) × (mirrored falls w k < mirroredTo falls w m n)
-unfolding mirrored mirroredFrom mirroredTo
-mirrored-between true w m n k n-in k-in from to = (omega arith, omega arith)
-mirrored-between false w m n k n-in k-in from to = (from, to)
-
-between-mirrored :
-    (falls : Bool) (w m n k : ℕ) → n ≤ w → k < w → mirroredFrom falls w m n ≤ mirrored falls w k → mirrored falls w k < mirroredTo falls w m n
-    → (m ≤ k) × (k < n)
-unfolding mirrored mirroredFrom mirroredTo
-between-mirrored true w m n k n-in k-in from to = (omega arith, omega arith)
-between-mirrored false w m n k n-in k-in from to = (from, to)
-
--- A pixel of the page lies in a rectangle of the page exactly where its compact place lies in the turned rectangle.
-module _ (steep falls : Bool) (width height : ℕ) (x : Rectangle) (right-in : x .right ≤ width) (bottom-in : x .bottom ≤ height) (c r : ℕ) where
-  pub within-turned :
-      c < width → r < height → Within x r c
-      → Within (turnedBox steep falls width height x) (downOf steep c r) (compactColumn steep falls width height c r)
-  unfolding turnedBox compactColumn downOf acrossOf
-  within-turned c-in r-in i = by-way steep
-    where
-      by-way : (steep : Bool) → Within (turnedBox steep falls width height x) (downOf steep c r) (compactColumn steep falls width height c r)
-      by-way true =
-          let across = mirrored-between falls width (x .left) (x .right) c right-in c-in (i .from-left) (i .before-right) in
-          record { below-top = i .below-top; above-bottom = i .above-bottom; from-left = across .0; before-right = across .1 }
-      by-way false =
-          let across = mirrored-between falls height (x .top) (x .bottom) r bottom-in r-in (i .below-top) (i .above-bottom) in
-          record { below-top = i .from-left; above-bottom = i .before-right; from-left = across .0; before-right = across .1 }
-
-  pub turned-within :
-      c < width → r < height
-      → Within (turnedBox steep falls width height x) (downOf steep c r) (compactColumn steep falls width height c r) → Within x r c
-  unfolding turnedBox compactColumn downOf acrossOf
-  turned-within c-in r-in = by-way steep
-    where
-      by-way :
-          (steep : Bool) → Within (turnedBox steep falls width height x) (downOf steep c r) (compactColumn steep falls width height c r)
-          → Within x r c
-      by-way true i =
-          let across = between-mirrored falls width (x .left) (x .right) c right-in c-in (i .from-left) (i .before-right) in
-          record { below-top = i .below-top; above-bottom = i .above-bottom; from-left = across .0; before-right = across .1 }
-      by-way false i =
-          let across = between-mirrored falls height (x .top) (x .bottom) r bottom-in r-in (i .from-left) (i .before-right) in
-          record { below-top = across .0; above-bottom = across .1; from-left = i .below-top; before-right = i .above-bottom }
-
--- what painting the compact page wants of the turned rectangle
-pub record OnCompact (y : Rectangle) (w n : ℕ) : Type 0 where
-  pub high : y .top ≤ y .bottom
-  pub wide : y .left ≤ y .right
-  pub right-in : y .right ≤ w
-  pub rows-in : y .bottom * w ≤ n
-
-module _ (steep falls : Bool) (width height : ℕ) (x : Rectangle) (on : OnPage x width height) where
-  bottom-turned : turnedBox steep falls width height x .bottom ≤ downOf steep width height
-  unfolding turnedBox downOf
-  bottom-turned = by-way steep
-    where
-      by-way : (steep : Bool) → downOf steep (x .right) (x .bottom) ≤ downOf steep width height
-      by-way true = on .bottom-in
-      by-way false = on .right-in
-
-  pub on-compact : (n : ℕ) → width * height ≤ n → OnCompact (turnedBox steep falls width height x) (acrossOf steep width height) n
-  unfolding turnedBox downOf acrossOf mirroredFrom mirroredTo
-  on-compact n room =
-      record {
-        high = high-way steep;
-        wide = wide-way steep falls;
-        right-in = right-way steep falls;
-        rows-in = omega (arith, mul-le-mul-right (acrossOf steep width height) bottom-turned, sides-product steep width height);
-      }
-    where
-      high-way : (steep : Bool) → downOf steep (x .left) (x .top) ≤ downOf steep (x .right) (x .bottom)
-      high-way true = on .high
-      high-way false = on .wide
-
-      wide-way : (steep falls : Bool) → turnedBox steep falls width height x .left ≤ turnedBox steep falls width height x .right
-      wide-way true true = omega (arith, on .wide)
-      wide-way true false = on .wide
-      wide-way false true = omega (arith, on .high)
-      wide-way false false = on .high
-
-      right-way : (steep falls : Bool) → turnedBox steep falls width height x .right ≤ acrossOf steep width height
-      right-way true true = omega arith
-      right-way true false = on .right-in
-      right-way false true = omega arith
-      right-way false false = on .bottom-in
-
-  across-least : 0 < acrossOf steep width height
-  unfolding acrossOf
-  across-least = by-way steep
-    where
-      by-way : (steep : Bool) → 0 < acrossOf steep width height
-      by-way true = on .width-least
-      by-way false = on .height-least
-
-  -- painting the turned rectangle paints the box's pixels, and no others
-  pub box-painted :
-      (value : ℕ) (before after : List ℕ)
-      → Painted (acrossOf steep width height) (turnedBox steep falls width height x) value before after
-      → BoxPainted steep falls width height x value before after
-  unfolding compactAt
-  box-painted value before after p =
-      record {
-        size = p .size;
-        hidden = λ r r-in c c-in i.
-            p .painted (downOf steep c r) (compactColumn steep falls width height c r)
-            (within-turned steep falls width height x (on .right-in) (on .bottom-in) c r c-in r-in i);
-        shown = λ r r-in c c-in out.
-            p .kept (downOf steep c r) (compactColumn steep falls width height c r) (compact-column-in steep falls width height c r c-in r-in)
-            (λ i. out (turned-within steep falls width height x (on .right-in) (on .bottom-in) c r c-in r-in i));
-        rest = λ i l.
-            let w = acrossOf steep width height in
-            let past : downOf steep width height ≤ i / w =
-            le-div-iff-mul-le across-least .1 (omega (arith, sides-product steep width height)) in
-            let same = p .kept (i / w) (i % w) (mod-lt i across-least) (λ q. omega (arith, q .above-bottom, bottom-turned, past)) in
-            subst (λ (k : ℕ). getD after k 0 ≡ getD before k 0) (div-add-mod' i w) same;
-      }
+    (lay : Layout) (c r : ℕ) → byteOf (compactOf lay) (compactColumn lay c r) (compactRow lay c r) ≡ compactAt lay c r
+unfolding byteOf rowStart compactOf compactAt
+compact-byte lay c r = omega arith

@@ -7,9 +7,10 @@ use mathlib.Core.List.{List}
 use lib.ListN.{getD}
 use lib.Dec.{leb}
 use Rattle.tray.specs.declared.Placement.{Placement}
+use Rattle.tray.specs.declared.Placements.{Placements}
 
--- where a row starts: the one place that says in which order the rows stand
-abbrev pub rowStart : Placement → ℕ → ℕ
+-- where a row starts: the one place that says in which order the rows stand. Others know it by its laws only.
+unfoldable pub rowStart : Placement → ℕ → ℕ
 rowStart p r = p .offset + r * p .stride
 
 -- "The pixel at column c, row r is byte offset + r·stride + c."
@@ -30,12 +31,24 @@ unfoldable pub sideAllowed : ℕ → Bool
 sideAllowed n = leb 1 n && leb n longestSide
 
 unfoldable pub allowed : Placement → Bool
-allowed p = sideAllowed (p .width) && sideAllowed (p .height) && (leb (p .width) (p .stride) && leb (p .stride) longestStride)
+allowed p =
+    sideAllowed (p .width) && sideAllowed (p .height) && (leb (p .width) (p .stride) && leb (p .stride) longestStride)
 
 -- "A page fits if offset + (h-1)·stride + w is at most the tray's length, over whole numbers."
 unfoldable pub fits : Placement → ℕ → Bool
 fits p length = leb (p .offset + (p .height - 1) * p .stride + p .width) length
 
--- "Scratch needed: 2·w·h + 3·max(w, h) bytes."
-unfoldable pub scratchNeeded : ℕ → ℕ → ℕ
-scratchNeeded w h = 2 * w * h + 3 * max w h
+-- "Source and output pages share w and h; each has its own offset and stride."
+unfoldable pub sourcePage : Placements → Placement
+sourcePage p = record { offset = p .source .offset; width = p .width; height = p .height; stride = p .source .stride }
+
+unfoldable pub outputPage : Placements → Placement
+outputPage p = record { offset = p .output .offset; width = p .width; height = p .height; stride = p .output .stride }
+
+-- "Scratch needed: 2·w·h + 3·max(w, h) bytes.": said for any number of pages in the scratch, with 2 of them the sentence
+unfoldable pub scratchNeeded : ℕ → ℕ → ℕ → ℕ
+scratchNeeded pages w h = pages * w * h + 3 * max w h
+
+-- no job keeps more pages there
+abbrev pub mostPages : ℕ
+mostPages = 3

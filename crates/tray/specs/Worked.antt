@@ -1,5 +1,5 @@
--- Two rows of three pixels in the middle of a tray: offset 2, stride 4. Their places on the compact page, and a box over the last two pixels
--- of the second row.
+-- Two rows of three pixels in the middle of a tray: offset 2, stride 4. Their places on the compact page, and a box over
+-- the last two pixels of the second row.
 -- Assumes nothing.
 use mathlib.Core.Path.{_≡_, refl}
 use Prim.Native.Nat.{ℕ, _+_, _*_}
@@ -8,7 +8,9 @@ use mathlib.Core.List.{List, [], _∷_, map}
 use Rattle.tray.specs.Placement.{allowed, sideAllowed, fits, scratchNeeded}
 use Rattle.tray.specs.Written.{columnOf, rowOf, inside, writtenFrom, written, cleared}
 use Rattle.geometry.specs.Drift.{mirrored}
-use Rattle.tray.specs.Turned.{downOf, acrossOf, compactColumn, compactAt, boxed, mirroredFrom, mirroredTo, turnedBox}
+use Rattle.tray.specs.Turned.{downOf, acrossOf, compactColumn, compactAt}
+use Rattle.tray.specs.Turned.{boxed, mirroredFrom, mirroredTo, turnedBox}
+use Rattle.tray.specs.declared.Layout.{Layout}
 use Rattle.tray.specs.declared.Placement.{Placement}
 
 abbrev middle : Placement
@@ -17,7 +19,9 @@ middle = record { offset = 2; width = 3; height = 2; stride = 4 }
 abbrev numbered : ℕ → ℕ → ℕ
 numbered c r = 10 * r + c + 1
 
-lands : written middle numbered (90 ∷ 91 ∷ 92 ∷ 93 ∷ 94 ∷ 95 ∷ 96 ∷ 97 ∷ 98 ∷ 99 ∷ []) ≡ 90 ∷ 91 ∷ 1 ∷ 2 ∷ 3 ∷ 95 ∷ 11 ∷ 12 ∷ 13 ∷ 99 ∷ []
+lands :
+    written middle numbered (90 ∷ 91 ∷ 92 ∷ 93 ∷ 94 ∷ 95 ∷ 96 ∷ 97 ∷ 98 ∷ 99 ∷ [])
+    ≡ 90 ∷ 91 ∷ 1 ∷ 2 ∷ 3 ∷ 95 ∷ 11 ∷ 12 ∷ 13 ∷ 99 ∷ []
 unfolding written writtenFrom inside columnOf rowOf
 lands = refl
 
@@ -27,7 +31,8 @@ unfolding fits
 just-fits = refl
 
 -- the largest 64-bit number as an offset: the sum does not wrap to something small
-no-wrap : fits (record { offset = 18446744073709551615; width = 1; height = 1; stride = 1 }) 18446744073709551615 ≡ false
+no-wrap :
+    fits (record { offset = 18446744073709551615; width = 1; height = 1; stride = 1 }) 18446744073709551615 ≡ false
 unfolding fits
 no-wrap = refl
 
@@ -42,7 +47,7 @@ limits : map allowed
 unfolding allowed sideAllowed
 limits = refl
 
-scratch : map (λ (h : ℕ). scratchNeeded 3 h) (1 ∷ 2 ∷ 5 ∷ []) ≡ 15 ∷ 21 ∷ 45 ∷ []
+scratch : map (λ (h : ℕ). scratchNeeded 2 3 h) (1 ∷ 2 ∷ 5 ∷ []) ≡ 15 ∷ 21 ∷ 45 ∷ []
 unfolding scratchNeeded
 scratch = refl
 
@@ -50,15 +55,19 @@ used-is-zero : cleared 3 (7 ∷ 7 ∷ 7 ∷ 7 ∷ []) ≡ 0 ∷ 0 ∷ 0 ∷ 7 �
 unfolding cleared
 used-is-zero = refl
 
+-- a page of three columns and two rows
+abbrev laid : Bool → Bool → Layout
+laid steep falls = record { steep = steep; falls = falls; width = 3; height = 2 }
+
 -- columns 0 to 2 of row 0, then of row 1: as they are, mirrored, transposed, and transposed with the rows mirrored
 places : Bool → Bool → List ℕ
 places steep falls =
-    compactAt steep falls 3 2 0 0
-    ∷ compactAt steep falls 3 2 1 0
-    ∷ compactAt steep falls 3 2 2 0
-    ∷ compactAt steep falls 3 2 0 1
-    ∷ compactAt steep falls 3 2 1 1
-    ∷ compactAt steep falls 3 2 2 1
+    compactAt (laid steep falls) 0 0
+    ∷ compactAt (laid steep falls) 1 0
+    ∷ compactAt (laid steep falls) 2 0
+    ∷ compactAt (laid steep falls) 0 1
+    ∷ compactAt (laid steep falls) 1 1
+    ∷ compactAt (laid steep falls) 2 1
     ∷ []
 
 steep-places : places true false ≡ 0 ∷ 1 ∷ 2 ∷ 3 ∷ 4 ∷ 5 ∷ []
@@ -77,10 +86,10 @@ shallow-falling-places : places false true ≡ 1 ∷ 3 ∷ 5 ∷ 0 ∷ 2 ∷ 4 �
 unfolding places compactAt compactColumn mirrored downOf acrossOf
 shallow-falling-places = refl
 
-box-steep-falling : turnedBox true true 3 2 (boxed 1 1 2 1) ≡ record { top = 1; bottom = 2; left = 0; right = 2 }
+box-steep-falling : turnedBox (laid true true) (boxed 1 1 2 1) ≡ record { top = 1; bottom = 2; left = 0; right = 2 }
 unfolding turnedBox boxed mirroredFrom mirroredTo downOf acrossOf
 box-steep-falling = refl
 
-box-shallow-falling : turnedBox false true 3 2 (boxed 1 1 2 1) ≡ record { top = 1; bottom = 3; left = 0; right = 1 }
+box-shallow-falling : turnedBox (laid false true) (boxed 1 1 2 1) ≡ record { top = 1; bottom = 3; left = 0; right = 1 }
 unfolding turnedBox boxed mirroredFrom mirroredTo downOf acrossOf
 box-shallow-falling = refl

@@ -1,20 +1,15 @@
 // Boxes of a page, and where they lie on the compact page.
+use crate::Layout;
+use crate::Rectangle;
+use crate::sides::compact_width;
 use crate::paint::paint;
 ghost use mathlib.Core.Path.{_≡_};
 ghost use Prim.Native.Nat.{_*_, _≤_};
 ghost use lib.ListN.{length};
-ghost use Rattle.tray.specs.Turned.{acrossOf, mirroredFrom, mirroredTo, turnedBox};
-ghost use Rattle.tray.specs.Promises.{OnPage, BoxPainted};
+ghost use Rattle.tray.specs.Turned.{mirroredFrom, mirroredTo, turnedBox};
+ghost use Rattle.tray.specs.Promises.{RectangleFits, BoxPainted};
 
-// Some rows and columns of a page: from top to just above bottom, from left to just before right.
-pub struct Rectangle {
-    pub top: usize,
-    pub bottom: usize,
-    pub left: usize,
-    pub right: usize,
-}
-
-// Of w columns those from m to just before n are mirrored where the line falls: the first of them ..
+// Of w columns those from m to just before n are mirrored where the line falls: this is the first of them.
 fn mirrored_from(falls: bool, w: usize, m: usize, n: usize) -> usize
     requires { ⌜ n ≤ w ⌝ }
     ensures { λ r. ⌜ r ≡ mirroredFrom falls w m n ⌝ }
@@ -25,7 +20,7 @@ fn mirrored_from(falls: bool, w: usize, m: usize, n: usize) -> usize
     m
 }
 
-// .. and the one past their last.
+// Of the same columns, mirrored, the one past their last.
 fn mirrored_to(falls: bool, w: usize, m: usize, n: usize) -> usize
     requires { ⌜ m ≤ w ⌝ }
     ensures { λ r. ⌜ r ≡ mirroredTo falls w m n ⌝ }
@@ -36,24 +31,14 @@ fn mirrored_to(falls: bool, w: usize, m: usize, n: usize) -> usize
     n
 }
 
-// How long the rows of the compact page are.
-pub fn across(steep: bool, width: usize, height: usize) -> usize
-    ensures { λ r. ⌜ r ≡ acrossOf steep width height ⌝ }
-{
-    if steep {
-        return width;
-    }
-    height
-}
-
 // Where a rectangle of the page lies on the compact page.
-pub fn turned_box(steep: bool, falls: bool, width: usize, height: usize, x: Rectangle) -> Rectangle
-    requires { ⌜ OnPage x width height ⌝ }
-    ensures { λ r. ⌜ r ≡ turnedBox steep falls width height x ⌝ }
+pub fn turned_box(lay: Layout, x: Rectangle) -> Rectangle
+    requires { ⌜ RectangleFits x (lay .width) (lay .height) ⌝ }
+    ensures { λ r. ⌜ r ≡ turnedBox lay x ⌝ }
 {
-    if steep {
-        let left = mirrored_from(falls, width, x.left, x.right);
-        let right = mirrored_to(falls, width, x.left, x.right);
+    if lay.steep {
+        let left = mirrored_from(lay.falls, lay.width, x.left, x.right);
+        let right = mirrored_to(lay.falls, lay.width, x.left, x.right);
         return Rectangle {
             top: x.top,
             bottom: x.bottom,
@@ -61,8 +46,8 @@ pub fn turned_box(steep: bool, falls: bool, width: usize, height: usize, x: Rect
             right: right,
         };
     }
-    let left = mirrored_from(falls, height, x.top, x.bottom);
-    let right = mirrored_to(falls, height, x.top, x.bottom);
+    let left = mirrored_from(lay.falls, lay.height, x.top, x.bottom);
+    let right = mirrored_to(lay.falls, lay.height, x.top, x.bottom);
     Rectangle {
         top: x.left,
         bottom: x.right,
@@ -72,20 +57,12 @@ pub fn turned_box(steep: bool, falls: bool, width: usize, height: usize, x: Rect
 }
 
 // The pixels of a rectangle of the page take the value on the compact page; every other byte is as it was.
-pub fn paint_box(
-    page: &mut [u8],
-    steep: bool,
-    falls: bool,
-    width: usize,
-    height: usize,
-    x: Rectangle,
-    value: u8,
-)
-    requires { ⌜ OnPage x width height ⌝ }
-    requires { ⌜ width * height ≤ length (now page) ⌝ }
-    ensures { λ _. ⌜ BoxPainted steep falls width height x value (now (page .entry)) (now (page .exit)) ⌝ }
+pub fn paint_box(page: &mut [u8], lay: Layout, x: Rectangle, value: u8)
+    requires { ⌜ RectangleFits x (lay .width) (lay .height) ⌝ }
+    requires { ⌜ lay .width * lay .height ≤ length (now page) ⌝ }
+    ensures { λ _. ⌜ BoxPainted lay x value (now (page .entry)) (now (page .exit)) ⌝ }
 {
-    let y = turned_box(steep, falls, width, height, x);
-    let w = across(steep, width, height);
-    paint(page, w, y.top, y.bottom, y.left, y.right, value);
+    let y = turned_box(lay, x);
+    let w = compact_width(lay);
+    paint(page, w, y, value);
 }

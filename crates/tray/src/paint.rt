@@ -1,9 +1,10 @@
 // A rectangle of a compact page painted with one value, and the used scratch cleared.
+use crate::Rectangle;
 ghost use mathlib.Core.Path.{_≡_};
-ghost use Prim.Native.Nat.{_*_, _≤_};
+ghost use Prim.Native.Nat.{_≤_};
 ghost use lib.ListN.{length, replicate};
 ghost use Rattle.tray.specs.Written.{cleared};
-ghost use Rattle.tray.specs.Promises.{Painted};
+ghost use Rattle.tray.specs.Promises.{RectangleInRows, RectanglePainted};
 
 // Every byte of a part takes the value.
 fn fill(part: &mut [u8], value: u8)
@@ -16,23 +17,16 @@ fn fill(part: &mut [u8], value: u8)
     }
 }
 
-// On a page whose rows are w long, the rows from top to just above bottom take the value in the columns from left to just before right.
-pub fn paint(
-    page: &mut [u8],
-    w: usize,
-    top: usize,
-    bottom: usize,
-    left: usize,
-    right: usize,
-    value: u8,
-)
-    requires { ⌜ (top ≤ bottom) × (left ≤ right) × (right ≤ w) × (bottom * w ≤ length (now page)) ⌝ }
-    ensures { λ _. ⌜ Painted w (record { top = top; bottom = bottom; left = left; right = right }) value (now (page .entry)) (now (page .exit)) ⌝ }
+// On a page whose rows are w long, a rectangle takes the value; every other byte is as it was.
+pub fn paint(page: &mut [u8], w: usize, x: Rectangle, value: u8)
+    requires { ⌜ RectangleInRows x w (length (now page)) ⌝ }
+    ensures { λ _. ⌜ RectanglePainted w x value (now (page .entry)) (now (page .exit)) ⌝ }
 {
-    let mut r = top;
+    let bottom = x.bottom;
+    let mut r = x.top;
     while r < bottom {
-        let from = r * w + left;
-        let to = r * w + right;
+        let from = r * w + x.left;
+        let to = r * w + x.right;
         fill(&mut page[from..to], value);
         r += 1;
     }

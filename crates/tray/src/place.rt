@@ -1,10 +1,13 @@
-// A placement's limits, whether its page fits a tray, and where a row starts. The decisions hold for any numbers: nothing wraps.
+// A placement's limits, whether its page fits a tray, where a row starts, the two pages of a job, and the scratch they
+// need. The decisions hold for any numbers: nothing wraps.
 use crate::Placement;
+use crate::Placements;
 ghost use mathlib.Core.Path.{_≡_};
 ghost use mathlib.Core.Bool.{_&&_};
 ghost use Prim.Native.Nat.{_-_, _*_, _<_, _≤_, _^_, max};
 ghost use lib.Dec.{leb, ltb};
-ghost use Rattle.tray.specs.Placement.{rowStart, sideAllowed, allowed, fits, scratchNeeded, longestSide, longestStride};
+ghost use Rattle.tray.specs.Placement.{rowStart, sideAllowed, allowed, fits, longestSide, longestStride};
+ghost use Rattle.tray.specs.Placement.{sourcePage, outputPage, mostPages, scratchNeeded};
 
 const LONGEST_SIDE: usize = 8192;
 
@@ -56,8 +59,8 @@ fn is_shorter(length: usize, steps: usize, stride: usize) -> bool
     length / steps < stride
 }
 
-// Whether a page fits a tray of so many bytes, whatever its offset, sides and stride: the length is divided and taken from, so that no
-// sum or product can wrap.
+// Whether a page fits a tray of so many bytes, whatever its offset, sides and stride: the length is divided and taken
+// from, so that no sum or product can wrap.
 pub fn does_fit(p: Placement, length: usize) -> bool
     ensures { λ r. ⌜ r ≡ fits p length ⌝ }
 {
@@ -72,12 +75,38 @@ pub fn does_fit(p: Placement, length: usize) -> bool
     p.offset <= left - p.width
 }
 
-// How many bytes of scratch a job on a page of these sides uses.
-pub fn scratch_needed(width: usize, height: usize) -> usize
-    requires { ⌜ (width ≤ longestSide) × (height ≤ longestSide) ⌝ }
-    ensures { λ r. ⌜ r ≡ scratchNeeded width height ⌝ }
+// Where the page that a job reads stands.
+pub fn source_page(p: Placements) -> Placement
+    ensures { λ r. ⌜ r ≡ sourcePage p ⌝ }
 {
-    2 * width * height + 3 * greater(width, height)
+    let spot = p.source;
+    Placement {
+        offset: spot.offset,
+        width: p.width,
+        height: p.height,
+        stride: spot.stride,
+    }
+}
+
+// Where the page that a job writes stands.
+pub fn output_page(p: Placements) -> Placement
+    ensures { λ r. ⌜ r ≡ outputPage p ⌝ }
+{
+    let spot = p.output;
+    Placement {
+        offset: spot.offset,
+        width: p.width,
+        height: p.height,
+        stride: spot.stride,
+    }
+}
+
+// How many bytes of scratch are used by a job that keeps so many pages of these sides there.
+pub fn scratch_needed(pages: usize, width: usize, height: usize) -> usize
+    requires { ⌜ (pages ≤ mostPages) × (width ≤ longestSide) × (height ≤ longestSide) ⌝ }
+    ensures { λ r. ⌜ r ≡ scratchNeeded pages width height ⌝ }
+{
+    pages * width * height + 3 * greater(width, height)
 }
 
 fn greater(a: usize, b: usize) -> usize
@@ -89,7 +118,8 @@ fn greater(a: usize, b: usize) -> usize
     a
 }
 
-// Where a row starts. No other function computes a row's place from its number; tiles go on from their first row's, stride by stride.
+// Where a row starts. No other function computes a row's place from its number; tiles go on from their first row's,
+// stride by stride.
 pub fn row_start(p: Placement, r: usize) -> usize
     requires { ⌜ rowStart p r < 2 ^ 64 ⌝ }
     ensures { λ at. ⌜ at ≡ rowStart p r ⌝ }

@@ -6,7 +6,7 @@ ghost use mathlib.Core.Bool.{true, false};
 ghost use Prim.Native.Nat.{_+_, _≤_, _<_};
 ghost use lib.ListN.{length, take, drop};
 ghost use Rattle.tray.specs.Placement.{rowStart};
-ghost use Rattle.tray.specs.Promises.{Placed, Filled};
+ghost use Rattle.tray.specs.Promises.{Placed, RowFilled};
 
 // A row's own part of the caller's tray: from its start, exactly as long as the page is wide.
 pub fn row_from(tray: &[u8], start: usize, width: usize) -> &[u8]
@@ -30,7 +30,7 @@ pub fn row(tray: &[u8], p: Placement, r: usize) -> &[u8]
 // A row is filled with another of its length, from the other end where it is mirrored.
 pub fn fill_row(from: &[u8], falls: bool, to: &mut [u8])
     requires { ⌜ length (now from) ≡ length (now to) ⌝ }
-    ensures { λ _. ⌜ Filled (now (from .entry)) falls (now (to .exit)) ⌝ }
+    ensures { λ _. ⌜ RowFilled (now (from .entry)) falls (now (to .exit)) ⌝ }
 {
     if falls {
         fill_mirrored(from, to);
@@ -41,7 +41,7 @@ pub fn fill_row(from: &[u8], falls: bool, to: &mut [u8])
 
 fn fill_same(from: &[u8], to: &mut [u8])
     requires { ⌜ length (now from) ≡ length (now to) ⌝ }
-    ensures { λ _. ⌜ Filled (now (from .entry)) false (now (to .exit)) ⌝ }
+    ensures { λ _. ⌜ RowFilled (now (from .entry)) false (now (to .exit)) ⌝ }
 {
     let mut k: usize = 0;
     while k < to.len() {
@@ -53,7 +53,7 @@ fn fill_same(from: &[u8], to: &mut [u8])
 // The other row is read forwards and this one filled from its end: read backwards it takes half as long again.
 fn fill_mirrored(from: &[u8], to: &mut [u8])
     requires { ⌜ length (now from) ≡ length (now to) ⌝ }
-    ensures { λ _. ⌜ Filled (now (from .entry)) true (now (to .exit)) ⌝ }
+    ensures { λ _. ⌜ RowFilled (now (from .entry)) true (now (to .exit)) ⌝ }
 {
     let n = to.len();
     let mut k: usize = 0;

@@ -1,5 +1,5 @@
-// Sixteen by sixteen bytes transposed at once. A byte a turn would visit a new row with each byte; here whole rows of sixteen are moved,
-// and the compiler makes each round of the shuffle a few instructions on sixteen bytes.
+// Sixteen by sixteen bytes transposed at once. A byte a turn would visit a new row with each byte; here whole rows of
+// sixteen are moved, and the compiler makes each round of the shuffle a few instructions on sixteen bytes.
 ghost use Prim.Native.Nat.{_+_, _≤_};
 ghost use mathlib.Core.Path.{_≡_};
 ghost use lib.ListN.{length};
@@ -20,8 +20,8 @@ pub fn copy_side(from: &[u8], a: usize, to: &mut [u8], b: usize)
     }
 }
 
-// A perfect shuffle of a tile: its two halves, byte by byte in turn. In the place of a byte, a number of eight bits, the first bit becomes
-// the last.
+// A perfect shuffle of a tile: its two halves, byte by byte in turn. In the place of a byte, a number of eight bits,
+// the first bit becomes the last.
 fn shuffle(x: &[u8], y: &mut [u8])
     requires { ⌜ (length (now x) ≡ 256) × (length (now y) ≡ 256) ⌝ }
     ensures { λ _. ⌜ Shuffled 128 (now (x .entry)) (now (y .exit)) ⌝ }

@@ -1,6 +1,9 @@
-// A page taken in and laid out compactly for the filter, and given out again: row by row where its lines are steep, transposed where they
-// are shallow, and mirrored where they fall. Every row is read as a part of its tray, and written through a part that is lent.
+// A page taken in and laid out compactly for the filter, and given out again: row by row where its lines are steep,
+// transposed where they are shallow, and mirrored where they fall. Every row is read as a part of its tray, and written
+// through a part that is lent.
+use crate::Layout;
 use crate::Placement;
+use crate::sides::compact;
 use crate::place::row_start;
 use crate::row::fill_row;
 use crate::row::row;
@@ -8,34 +11,24 @@ use crate::row::row_from;
 use crate::tile::SIDE;
 use crate::tile::copy_side;
 use crate::tile::transpose;
+use geometry::normal::mirrored;
 use std::num::wrapping_add_usize;
 ghost use mathlib.Core.Path.{_≡_};
 ghost use Prim.Native.Nat.{_+_, _*_, _≤_, _<_};
 ghost use lib.ListN.{length};
 ghost use Rattle.tray.specs.Written.{written};
 ghost use Rattle.tray.specs.Tiles.{Copied};
-ghost use Rattle.geometry.specs.Drift.{mirrored};
-ghost use Rattle.tray.specs.Turned.{compactOf};
-ghost use Rattle.tray.specs.Promises.{Placed, PageIn, compactPixel};
-ghost use Rattle.tray.specs.Pieces.{Alike, Turnable, Stored, Taken, Part, PutRows, copiedPixel, sourcePixel, turnedPixel, stepOf};
+ghost use Rattle.tray.specs.Promises.{Placed, SameSides, PageIn, compactPixel};
+ghost use Rattle.tray.specs.Pieces.{Alike, Turnable, Stored, Taken, TurnedPart, TurnedRows, PutRows};
+ghost use Rattle.tray.specs.Pieces.{copiedPixel, sourcePixel, turnedPixel, rowStepOf};
 
-// A page and its transposed page. Where readup is true the source's rows are taken from the last one up, and where writeup is true the
-// target's rows are filled from the last one up.
+// A page and its transposed page. Where readup is true the source's rows are taken from the last one up, and where
+// writeup is true the target's rows are filled from the last one up.
 pub struct Turn {
     pub source: Placement,
     pub target: Placement,
     pub readup: bool,
     pub writeup: bool,
-}
-
-fn mirror(falls: bool, n: usize, m: usize) -> usize
-    requires { ⌜ m < n ⌝ }
-    ensures { λ r. ⌜ r ≡ mirrored falls n m ⌝ }
-{
-    if falls {
-        return n - 1 - m;
-    }
-    m
 }
 
 // Each row of one page is filled with the same row of the other.
@@ -64,7 +57,7 @@ fn gather(from: &[u8], t: Turn, a: usize, part: &mut [u8], b: usize, e: usize)
     let p = t.source;
     let mut k = b;
     while k < e {
-        let line = row(from, p, mirror(t.readup, p.height, k));
+        let line = row(from, p, mirrored(t.readup, p.height, k));
         part[k] = line[a];
         k += 1;
     }
@@ -74,19 +67,19 @@ fn gather(from: &[u8], t: Turn, a: usize, part: &mut [u8], b: usize, e: usize)
 fn turn_row(from: &[u8], t: Turn, to: &mut [u8], a: usize, b: usize, e: usize)
     requires { ⌜ Turnable t (length (now from)) (length (now to)) ⌝ }
     requires { ⌜ (a < t .target .height) × (b ≤ e) × (e ≤ t .target .width) ⌝ }
-    ensures { λ _. ⌜ Part (turnedPixel (now (from .entry)) t) t a (a + 1) b e (now (to .entry)) (now (to .exit)) ⌝ }
+    ensures { λ _. ⌜ TurnedPart (now (from .entry)) t a (a + 1) b e (now (to .entry)) (now (to .exit)) ⌝ }
 {
     let q = t.target;
-    let at = row_start(q, mirror(t.writeup, q.height, a));
+    let at = row_start(q, mirrored(t.writeup, q.height, a));
     let end = at + q.width;
     gather(from, t, a, &mut to[at..end], b, e);
 }
 
-// The same for the columns from a to just before e, and the target's columns from b on: what no tile covers.
+// The source's columns from a to just before e fill their rows of the target from column b on: what no tile covers.
 fn turn_rows(from: &[u8], t: Turn, to: &mut [u8], a: usize, e: usize, b: usize)
     requires { ⌜ Turnable t (length (now from)) (length (now to)) ⌝ }
     requires { ⌜ (a ≤ e) × (e ≤ t .target .height) × (b ≤ t .target .width) ⌝ }
-    ensures { λ _. ⌜ Part (turnedPixel (now (from .entry)) t) t a e b (t .target .width) (now (to .entry)) (now (to .exit)) ⌝ }
+    ensures { λ _. ⌜ TurnedPart (now (from .entry)) t a e b (t .target .width) (now (to .entry)) (now (to .exit)) ⌝ }
 {
     let width = t.target.width;
     let mut i = a;
@@ -96,11 +89,12 @@ fn turn_rows(from: &[u8], t: Turn, to: &mut [u8], a: usize, e: usize, b: usize)
     }
 }
 
-// What is added to a row's start to give the next row's, or that of the row above it. The sum is one that wraps, so that a tile is moved in
-// the same way up and down: with a branch for each row the compiler no longer keeps a tile in registers.
+// What is added to a row's start to give the next row's, or that of the row above it. The sum is one that wraps, so
+// that a tile is moved in the same way up and down: with a branch for each row the compiler no longer keeps a tile in
+// registers.
 fn row_step(up: bool, stride: usize) -> usize
     requires { ⌜ 1 ≤ stride ⌝ }
-    ensures { λ r. ⌜ r ≡ stepOf up stride ⌝ }
+    ensures { λ r. ⌜ r ≡ rowStepOf up stride ⌝ }
 {
     if up {
         return usize::MAX - stride + 1;
@@ -115,7 +109,7 @@ fn take_tile(from: &[u8], t: Turn, a: usize, b: usize, tile: &mut [u8])
     ensures { λ _. ⌜ Taken 16 (now (from .entry)) t a b (now (tile .exit)) ⌝ }
 {
     let p = t.source;
-    let mut start = row_start(p, mirror(t.readup, p.height, b));
+    let mut start = row_start(p, mirrored(t.readup, p.height, b));
     let mut k: usize = 0;
     while k < SIDE {
         let line = row_from(from, start, p.width);
@@ -141,7 +135,7 @@ fn put_tile(tile: &[u8], t: Turn, to: &mut [u8], a: usize, b: usize)
     ensures { λ _. ⌜ PutRows 16 (now (tile .entry)) t a b (now (to .entry)) (now (to .exit)) ⌝ }
 {
     let q = t.target;
-    let mut start = row_start(q, mirror(t.writeup, q.height, a));
+    let mut start = row_start(q, mirrored(t.writeup, q.height, a));
     let mut i: usize = 0;
     while i < SIDE {
         put_row(tile, SIDE * i, to, start, q.width, b);
@@ -154,7 +148,7 @@ fn put_tile(tile: &[u8], t: Turn, to: &mut [u8], a: usize, b: usize)
 fn turn_tile(from: &[u8], t: Turn, to: &mut [u8], a: usize, b: usize)
     requires { ⌜ Turnable t (length (now from)) (length (now to)) ⌝ }
     requires { ⌜ (a + 16 ≤ t .target .height) × (b + 16 ≤ t .target .width) ⌝ }
-    ensures { λ _. ⌜ Part (turnedPixel (now (from .entry)) t) t a (a + 16) b (b + 16) (now (to .entry)) (now (to .exit)) ⌝ }
+    ensures { λ _. ⌜ TurnedPart (now (from .entry)) t a (a + 16) b (b + 16) (now (to .entry)) (now (to .exit)) ⌝ }
 {
     let mut tile = [0u8; 256];
     let mut spare = [0u8; 256];
@@ -163,12 +157,12 @@ fn turn_tile(from: &[u8], t: Turn, to: &mut [u8], a: usize, b: usize)
     put_tile(&tile, t, to, a, b);
 }
 
-// So many tiles of the source, side by side, become as many of the target, below one another. A tile is turned at this one place only: the
-// compiler then makes it a part of the loop, and works out once what all its tiles share.
+// So many tiles of the source, side by side, become as many of the target, below one another. A tile is turned at this
+// one place only: the compiler then makes it a part of the loop, and works out once what all its tiles share.
 fn turn_tiles(from: &[u8], t: Turn, to: &mut [u8], a: usize, n: usize, b: usize)
     requires { ⌜ Turnable t (length (now from)) (length (now to)) ⌝ }
     requires { ⌜ (a + 16 * n ≤ t .target .height) × (b + 16 ≤ t .target .width) ⌝ }
-    ensures { λ _. ⌜ Part (turnedPixel (now (from .entry)) t) t a (a + 16 * n) b (b + 16) (now (to .entry)) (now (to .exit)) ⌝ }
+    ensures { λ _. ⌜ TurnedPart (now (from .entry)) t a (a + 16 * n) b (b + 16) (now (to .entry)) (now (to .exit)) ⌝ }
 {
     let mut i: usize = 0;
     while i < n {
@@ -177,11 +171,12 @@ fn turn_tiles(from: &[u8], t: Turn, to: &mut [u8], a: usize, n: usize, b: usize)
     }
 }
 
-// Down a band of n tiles the target's rows are filled from left to right, so that what is read and written stays in the cache.
+// Down a band of n tiles the target's rows are filled from left to right, so that what is read and written stays in the
+// cache.
 fn turn_band(from: &[u8], t: Turn, to: &mut [u8], a: usize, n: usize)
     requires { ⌜ Turnable t (length (now from)) (length (now to)) ⌝ }
     requires { ⌜ a + 16 * n ≤ t .target .height ⌝ }
-    ensures { λ _. ⌜ Part (turnedPixel (now (from .entry)) t) t a (a + 16 * n) 0 (t .target .width) (now (to .entry)) (now (to .exit)) ⌝ }
+    ensures { λ _. ⌜ TurnedRows (now (from .entry)) t a (a + 16 * n) (now (to .entry)) (now (to .exit)) ⌝ }
 {
     let width = t.target.width;
     let mut b: usize = 0;
@@ -192,15 +187,15 @@ fn turn_band(from: &[u8], t: Turn, to: &mut [u8], a: usize, n: usize)
     turn_rows(from, t, to, a, a + SIDE * n, b);
 }
 
-// How many tiles side by side a band has at most, on a page of so many rows. With more of them more of a row is read at a time, but more rows
-// are written to by turns, which on small pages fall on the same places of the cache.
+// How many tiles side by side a band has at most, on a page of so many rows. With more of them more of a row is read at
+// a time, but more rows are written to by turns, which on small pages fall on the same places of the cache.
 fn most_across(rows: usize) -> usize
     ensures { λ n. ⌜ (1 ≤ n) × (n ≤ 16) ⌝ }
 {
     if rows < 2048 { 4 } else { 16 }
 }
 
-// How many the next band has, where so many columns of the source are left.
+// How many tiles side by side the next band has, where so many columns of the source are left.
 fn tiles_across(rows: usize, left: usize) -> usize
     requires { ⌜ 16 ≤ left ⌝ }
     ensures { λ n. ⌜ (1 ≤ n) × (16 * n ≤ left) ⌝ }
@@ -215,7 +210,8 @@ fn tiles_across(rows: usize, left: usize) -> usize
 // The target's rows in bands, as far as tiles go. It answers how many rows are filled.
 fn turn_bands(from: &[u8], t: Turn, to: &mut [u8]) -> usize
     requires { ⌜ Turnable t (length (now from)) (length (now to)) ⌝ }
-    ensures { λ r. ⌜ (r ≤ t .target .height) × Part (turnedPixel (now (from .entry)) t) t 0 r 0 (t .target .width) (now (to .entry)) (now (to .exit)) ⌝ }
+    ensures most { λ r. ⌜ r ≤ t .target .height ⌝ }
+    ensures filled { λ r. ⌜ TurnedRows (now (from .entry)) t 0 r (now (to .entry)) (now (to .exit)) ⌝ }
 {
     let height = t.target.height;
     let mut a: usize = 0;
@@ -236,40 +232,21 @@ fn turn_page(from: &[u8], t: Turn, to: &mut [u8])
     turn_rows(from, t, to, a, t.target.height, 0);
 }
 
-// Where the compact page stands in its own tray.
-pub fn compact(steep: bool, p: Placement) -> Placement
-    ensures { λ r. ⌜ r ≡ compactOf steep p ⌝ }
-{
-    if steep {
-        return Placement {
-            offset: 0,
-            width: p.width,
-            height: p.height,
-            stride: p.width,
-        };
-    }
-    Placement {
-        offset: 0,
-        width: p.height,
-        height: p.width,
-        stride: p.height,
-    }
-}
-
 // The page's pixels are laid out compactly in the first bytes of a tray; the bytes after them are as they were.
-pub fn page_in(source: &[u8], p: Placement, steep: bool, falls: bool, page: &mut [u8])
+pub fn page_in(source: &[u8], p: Placement, lay: Layout, page: &mut [u8])
     requires { ⌜ Placed p (length (now source)) ⌝ }
-    requires { ⌜ p .width * p .height ≤ length (now page) ⌝ }
-    ensures { λ _. ⌜ PageIn (now (source .entry)) p steep falls (now (page .entry)) (now (page .exit)) ⌝ }
+    requires { ⌜ SameSides lay p ⌝ }
+    requires { ⌜ lay .width * lay .height ≤ length (now page) ⌝ }
+    ensures { λ _. ⌜ PageIn (now (source .entry)) p lay (now (page .entry)) (now (page .exit)) ⌝ }
 {
-    let q = compact(steep, p);
-    if steep {
-        copy_rows(source, p, falls, page, q);
+    let q = compact(lay);
+    if lay.steep {
+        copy_rows(source, p, lay.falls, page, q);
     } else {
         let t = Turn {
             source: p,
             target: q,
-            readup: falls,
+            readup: lay.falls,
             writeup: false,
         };
         turn_page(source, t, page);
@@ -277,20 +254,21 @@ pub fn page_in(source: &[u8], p: Placement, steep: bool, falls: bool, page: &mut
 }
 
 // The compact page is written to its place in a tray; every byte outside that place is as it was.
-pub fn page_out(page: &[u8], steep: bool, falls: bool, p: Placement, out: &mut [u8])
+pub fn page_out(page: &[u8], lay: Layout, p: Placement, out: &mut [u8])
     requires { ⌜ Placed p (length (now out)) ⌝ }
-    requires { ⌜ p .width * p .height ≤ length (now page) ⌝ }
-    ensures { λ _. ⌜ now (out .exit) ≡ written p (compactPixel (now (page .entry)) steep falls p) (now (out .entry)) ⌝ }
+    requires { ⌜ SameSides lay p ⌝ }
+    requires { ⌜ lay .width * lay .height ≤ length (now page) ⌝ }
+    ensures { λ _. ⌜ now (out .exit) ≡ written p (compactPixel (now (page .entry)) lay) (now (out .entry)) ⌝ }
 {
-    let q = compact(steep, p);
-    if steep {
-        copy_rows(page, q, falls, out, p);
+    let q = compact(lay);
+    if lay.steep {
+        copy_rows(page, q, lay.falls, out, p);
     } else {
         let t = Turn {
             source: q,
             target: p,
             readup: false,
-            writeup: falls,
+            writeup: lay.falls,
         };
         turn_page(page, t, out);
     }

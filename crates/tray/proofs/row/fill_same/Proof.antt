@@ -1,10 +1,10 @@
 -- `tray::row::fill_same` meets its contract. The invariant: what stands below k is filled. Assumes nothing.
 use borrow.Author.Needs.{needs}
 use Prim.Native.Nat.{ℕ, _≤_, _<_, _-_}
-use mathlib.Core.Path.{_≡_, refl}
+use mathlib.Core.Path.{_≡_, refl, sym, _∙_, ap}
 use native.Mathlib.Omega.{arith}
 use lib.ListN.{length, getD}
-use Rattle.geometry.specs.Drift.{mirrored}
+use Rattle.geometry.specs.Laws.{mirrored-rising}
 use Rattle.tray.proofs.Stores.{store-more}
 use Rattle.tray.proofs.row.fill_same.Statement.{statement}
 use Rattle.tray.proofs.row.fill_same.Tie as tie
@@ -23,8 +23,13 @@ loop-again c =
     (search needs, search needs, store-more (λ (j : ℕ). getD (a .from .now) j 0) (l .to) (l .k) _ fits (l .inv .2) (refl))
 
 returns : tie.Need-returns Inv-loop μ-loop
-unfolding mirrored
-returns c = record { size = search needs; each = λ k k-in. c .before .loop .inv .2 k (omega arith) }
+returns c =
+    let from = c .before .before .args .from .now in
+    record {
+      size = search needs;
+      each = λ k k-in.
+          c .before .loop .inv .2 k (omega arith) ∙ ap (λ (m : ℕ). getD from m 0) (sym (mirrored-rising (length from) k));
+    }
 
 pub fill-same-spec : {M : Type 1} → statement M
 fill-same-spec =

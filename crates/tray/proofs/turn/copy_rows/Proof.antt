@@ -7,10 +7,10 @@ use borrow.Author.Needs.{needs}
 use lib.ListN.{length}
 use Rattle.tray.specs.Placement.{rowStart}
 use Rattle.tray.specs.Promises.{Placed}
-use Rattle.tray.specs.Laws.{moved-length, row-room}
+use Rattle.tray.specs.Laws.{row-room}
 use Rattle.tray.specs.Pieces.{copiedPixel}
 use Rattle.tray.proofs.Lent.{part-length}
-use Rattle.tray.proofs.Pieces.{Rows, rows-none, rows-more, rows-all}
+use Rattle.tray.proofs.Pieces.{moved-length, Rows, rows-none, rows-more, rows-all}
 use Rattle.tray.proofs.Lines.{line-length, filled-pixel}
 use Rattle.tray.proofs.turn.copy_rows.Statement.{statement}
 use Rattle.tray.proofs.turn.copy_rows.Tie as tie

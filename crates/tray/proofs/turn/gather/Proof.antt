@@ -3,7 +3,7 @@ use mathlib.Core.Path.{_≡_, sym, subst}
 use Prim.Native.Nat.{ℕ, _-_, _≤_, _<_}
 use native.Mathlib.Omega.{arith}
 use borrow.Author.Needs.{needs}
-use Rattle.tray.specs.Laws.{mirrored-in}
+use Rattle.geometry.specs.Laws.{mirrored-below}
 use Rattle.tray.specs.Pieces.{Stored, sourcePixel}
 use Rattle.tray.proofs.Pieces.{stored-none, stored-more}
 use Rattle.tray.proofs.Lines.{line-length, line-source}
@@ -21,16 +21,16 @@ loop-holds c =
     let s = c .before .before .before in
     (search needs, s .pre .1 .1, stored-none _ _ _)
 
-mirror-requires : tie.Need-mirror-requires Inv-loop μ-loop
-mirror-requires c κs =
+mirrored-requires : tie.Need-mirrored-requires Inv-loop μ-loop
+mirrored-requires c κs =
     let s = c .before .before .before .before .before in
     omega (arith, c .loop-test .taken, s .pre .1 .2)
 
 -- the row that is read is one of the source's
-row-in : (c : tie.After-mirror Inv-loop μ-loop) → c .mirror .result < c .before .before .before .before .before .before .args .t .source .height
+row-in : (c : tie.After-mirrored Inv-loop μ-loop) → c .mirrored .result < c .before .before .before .before .before .before .args .t .source .height
 row-in c =
     let t = c .before .before .before .before .before .before .args .t in
-    subst (λ (r : ℕ). r < t .source .height) (sym (c .mirror .ensures)) (mirrored-in (t .readup) (t .source .height) _ (mirror-requires (c .before) tt))
+    subst (λ (r : ℕ). r < t .source .height) (sym (c .mirrored .ensures)) (mirrored-below (t .readup) (t .source .height) _ (mirrored-requires (c .before) tt))
 
 row-requires : tie.Need-row-requires Inv-loop μ-loop
 row-requires c κs = (c .before .before .before .before .before .before .pre .0, row-in c)
@@ -39,7 +39,7 @@ shared-slice-read-part : tie.Need-shared-slice-read-part Inv-loop μ-loop
 shared-slice-read-part c =
     let m = c .before .before in
     let s = m .before .before .before .before .before .before in
-    let long = line-length (s .args .from .now) (c .before .row .result .now) (s .args .t .source) (m .mirror .result) (c .before .row .ensures) (s .pre .0) (row-in m) in
+    let long = line-length (s .args .from .now) (c .before .row .result .now) (s .args .t .source) (m .mirrored .result) (c .before .row .ensures) (s .pre .0) (row-in m) in
     omega (arith, long, s .pre .1 .0)
 
 slice-write-part : tie.Need-slice-write-part Inv-loop μ-loop
@@ -55,7 +55,7 @@ loop-again c =
     let l = turn .before .loop in
     let s = turn .before .before .before .before .before in
     let a = s .args in
-    let pixel = line-source (a .from .now) (a .t) (c .before .row .result .now) (m .mirror .result) (l .k) (c .before .row .ensures) (m .mirror .ensures) (a .a) (s .pre .1 .0) in (
+    let pixel = line-source (a .from .now) (a .t) (c .before .row .result .now) (m .mirrored .result) (l .k) (c .before .row .ensures) (m .mirrored .ensures) (a .a) (s .pre .1 .0) in (
       omega arith,
       omega (arith, turn .loop-test .taken),
       stored-more (sourcePixel (a .from .now) (a .t) (a .a)) (a .b) (l .k) _ (a .part .now) (l .part) (slice-write-part c) pixel (l .inv .2) (l .inv .0),
@@ -75,7 +75,7 @@ gather-spec =
     Inv-loop
     μ-loop
     loop-holds
-    mirror-requires
+    mirrored-requires
     row-requires
     shared-slice-read-part
     slice-write-part

@@ -19,14 +19,14 @@ Inv-loop tile t to₀ a b q start₀ i₀ to start i =
 abbrev μ-loop : tie.MeasureT-loop
 μ-loop tile t to₀ a b q start₀ i₀ to start i = 16 - i
 
-mirror-requires : tie.Need-mirror-requires Inv-loop μ-loop
-mirror-requires c κs = omega (arith, c .before .before .before .pre .1 .1)
+mirrored-requires : tie.Need-mirrored-requires Inv-loop μ-loop
+mirrored-requires c κs = omega (arith, c .before .before .before .pre .1 .1)
 
 row-start-requires : tie.Need-row-start-requires Inv-loop μ-loop
 row-start-requires c κs =
     let s = c .before .before .before .before in
     let t = s .args .t in
-    let room = mirrored-room (t .writeup) (t .target) _ (s .args .a) _ (s .pre .0) (omega (arith, s .pre .1 .1)) (ap (rowStart (t .target)) (c .mirror .ensures)) in
+    let room = mirrored-room (t .writeup) (t .target) _ (s .args .a) _ (s .pre .0) (omega (arith, s .pre .1 .1)) (ap (rowStart (t .target)) (c .mirrored .ensures)) in
     omega (arith, room, s .good .1 .1 .0 .0)
 
 loop-holds : tie.Need-loop-holds Inv-loop μ-loop
@@ -35,7 +35,7 @@ loop-holds c =
     let t = s .args .t in
     let first : s .args .a ≡ s .args .a + 0 = omega arith in (
       search needs,
-      λ some. c .row-start .ensures ∙ ap (rowStart (t .target)) (c .before .mirror .ensures ∙ ap (mirrored (t .writeup) (t .target .height)) first),
+      λ some. c .row-start .ensures ∙ ap (rowStart (t .target)) (c .before .mirrored .ensures ∙ ap (mirrored (t .writeup) (t .target .height)) first),
       put-none _ _ _ _ _,
     )
 
@@ -87,7 +87,7 @@ put-tile-spec =
     (tie.spec
     Inv-loop
     μ-loop
-    mirror-requires
+    mirrored-requires
     row-start-requires
     loop-holds
     (λ c. search needs)

@@ -1,16 +1,16 @@
 -- `tray::turn::row_step` meets its contract. Assumes nothing.
 use native.Mathlib.Omega.{arith}
 use borrow.Author.Needs.{needs}
-use Rattle.tray.specs.Pieces.{stepOf}
+use Rattle.tray.specs.Pieces.{rowStepOf}
 use Rattle.tray.proofs.turn.row_step.Statement.{statement}
 use Rattle.tray.proofs.turn.row_step.Tie as tie
 
 returns : tie.Need-returns
-unfolding stepOf
+unfolding rowStepOf
 returns c = rw (c .if1 .taken) (omega arith)
 
 returns-2 : tie.Need-returns-2
-unfolding stepOf
+unfolding rowStepOf
 returns-2 c = rw (c .if1 .left)
 
 pub row-step-spec : {M : Type 1} → statement M

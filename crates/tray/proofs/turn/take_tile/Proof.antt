@@ -20,14 +20,14 @@ Inv-loop from t a b tile₀ p start₀ k₀ tile start k =
 abbrev μ-loop : tie.MeasureT-loop
 μ-loop from t a b tile₀ p start₀ k₀ tile start k = 16 - k
 
-mirror-requires : tie.Need-mirror-requires Inv-loop μ-loop
-mirror-requires c κs = omega (arith, c .before .before .before .pre .1 .1)
+mirrored-requires : tie.Need-mirrored-requires Inv-loop μ-loop
+mirrored-requires c κs = omega (arith, c .before .before .before .pre .1 .1)
 
 row-start-requires : tie.Need-row-start-requires Inv-loop μ-loop
 row-start-requires c κs =
     let s = c .before .before .before .before in
     let t = s .args .t in
-    let room = mirrored-room (t .readup) (t .source) _ (s .args .b) _ (s .pre .0) (omega (arith, s .pre .1 .1)) (ap (rowStart (t .source)) (c .mirror .ensures)) in
+    let room = mirrored-room (t .readup) (t .source) _ (s .args .b) _ (s .pre .0) (omega (arith, s .pre .1 .1)) (ap (rowStart (t .source)) (c .mirrored .ensures)) in
     omega (arith, room, s .good .0 .0)
 
 loop-holds : tie.Need-loop-holds Inv-loop μ-loop
@@ -36,7 +36,7 @@ loop-holds c =
     let t = s .args .t in
     let first : s .args .b ≡ s .args .b + 0 = omega arith in (
       search needs,
-      λ some. c .row-start .ensures ∙ ap (rowStart (t .source)) (c .before .mirror .ensures ∙ ap (mirrored (t .readup) (t .source .height)) first),
+      λ some. c .row-start .ensures ∙ ap (rowStart (t .source)) (c .before .mirrored .ensures ∙ ap (mirrored (t .readup) (t .source .height)) first),
       taken-none _ _ _ _ _ (s .pre .1 .2),
     )
 
@@ -102,7 +102,7 @@ take-tile-spec =
     (tie.spec
     Inv-loop
     μ-loop
-    mirror-requires
+    mirrored-requires
     row-start-requires
     loop-holds
     row-from-requires

@@ -6,7 +6,8 @@ use native.Mathlib.Omega.{arith}
 use borrow.Author.Needs.{needs}
 use lib.ListN.{length, take, drop}
 use Rattle.tray.specs.Placement.{rowStart}
-use Rattle.tray.specs.Laws.{row-room, mirrored-in}
+use Rattle.geometry.specs.Laws.{mirrored-below}
+use Rattle.tray.specs.Laws.{row-room}
 use Rattle.tray.specs.Pieces.{sourcePixel, turnedPixel}
 use Rattle.tray.proofs.Lent.{part-length}
 use Rattle.tray.proofs.Pieces.{stored-as, part-row-at}
@@ -14,19 +15,19 @@ use Rattle.tray.proofs.Lines.{turned-is}
 use Rattle.tray.proofs.turn.turn_row.Statement.{statement}
 use Rattle.tray.proofs.turn.turn_row.Tie as tie
 
-module _ (c : tie.After-mirror) where
+module _ (c : tie.After-mirrored) where
   abbrev start : tie.Start
   start = c .before .before .before .before
 
-  row-in : c .mirror .result < start .args .t .target .height
+  row-in : c .mirrored .result < start .args .t .target .height
   row-in =
       let t = start .args .t in
-      subst (λ (r : ℕ). r < t .target .height) (sym (c .mirror .ensures)) (mirrored-in (t .writeup) (t .target .height) _ (start .pre .1 .0))
+      subst (λ (r : ℕ). r < t .target .height) (sym (c .mirrored .ensures)) (mirrored-below (t .writeup) (t .target .height) _ (start .pre .1 .0))
 
-  room : rowStart (start .args .t .target) (c .mirror .result) + start .args .t .target .width ≤ length (start .args .to .now)
+  room : rowStart (start .args .t .target) (c .mirrored .result) + start .args .t .target .width ≤ length (start .args .to .now)
   room = row-room _ _ _ (start .pre .0 .to-tray) row-in
 
-  small : rowStart (start .args .t .target) (c .mirror .result) + start .args .t .target .width < 2 ^ 64
+  small : rowStart (start .args .t .target) (c .mirrored .result) + start .args .t .target .width < 2 ^ 64
   small = omega (arith, room, start .good .1 .1 .0 .0)
 
 row-start-requires : tie.Need-row-start-requires
@@ -64,8 +65,8 @@ returns c =
     let s = start (begun .before) in
     let a = s .args in
     let page = turnedPixel (a .from .now) (a .t) in
-    let r = begun .before .mirror .result in
-    let is = begun .before .mirror .ensures in
+    let r = begun .before .mirrored .result in
+    let is = begun .before .mirrored .ensures in
     let at = begun .row-start .result in
     let stored = c .before .before .gather .ensures in
     let ys = c .before .before .gather .last .1 .1 .1 .0 in
