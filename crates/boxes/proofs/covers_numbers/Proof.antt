@@ -2,7 +2,7 @@
 use mathlib.Core.Path.{_≡_, sym, ap, _∙_}
 use mathlib.Core.Bool.{Bool, true, false, _&&_}
 use borrow.Author.Needs.{needs}
-use Rattle.filter.specs.Seen.{covers}
+use Rattle.boxes.specs.Boxes.{covers}
 use Rattle.boxes.proofs.covers_numbers.Statement.{statement}
 use Rattle.boxes.proofs.covers_numbers.Tie as tie
 
