@@ -1,5 +1,5 @@
 -- From its buffer into the scratch and out again: what stands in the scratch is the filtered page. Assumes nothing.
-use mathlib.Core.Path.{_≡_, refl, sym, ap, _∙_, subst, subst₂}
+use mathlib.Core.Path.{_≡_, refl, sym, ap, _∙_, subst}
 use mathlib.Core.Bool.{Bool, true, false, not, _&&_, cond, and-false}
 use mathlib.Core.Option.{Option, none, some, Option·some-injective, Option·none-ne-some}
 use mathlib.Core.List.{List}
@@ -15,15 +15,16 @@ use Rattle.geometry.specs.declared.Line.{Line}
 use Rattle.runs.specs.Grid.{Tabled}
 use Rattle.ticket.specs.declared.HiddenBox.{HiddenBox}
 use Rattle.tray.specs.Placement.{pixelIn}
-use Rattle.tray.specs.Promises.{Placed, PageIn, compactPixel}
+use Rattle.tray.specs.Promises.{SameSides, PageIn, compactPixel}
 use Rattle.tray.specs.Written.{written}
 use Rattle.tray.specs.Laws.{written-same}
-use Rattle.tray.specs.Turned.{acrossOf, downOf, compactAt}
+use Rattle.tray.specs.Turned.{acrossOf, downOf, compactHeight, compactAt}
+use Rattle.tray.specs.declared.Layout.{Layout}
 use Rattle.tray.specs.declared.Placement.{Placement}
 use Rattle.filter.specs.Seen.{View, seen, turned}
 use Rattle.filter.specs.Filters.{operated, filtered, orWhite, recipeBoxes, filteredPage}
 use Rattle.filter.specs.Work.{workOf}
-use Rattle.filter.specs.Engine.{Absent, Bytes, steepOf, fallsOf, gridOf, placeOf, Held, Painted, PassDone, BoxesLie, Runs, Tables, Enters, Ready}
+use Rattle.filter.specs.Engine.{Absent, Bytes, steepOf, layoutOf, gridOf, placeOf, Held, Painted, PassDone, BoxesLie, Runs, Tables, Enters, Ready}
 use Rattle.filter.specs.Promises.{Fits, Filtered}
 use Rattle.filter.specs.declared.Recipe.{Recipe}
 
@@ -86,7 +87,7 @@ module _ (how : Recipe) (p : Placement) (source : List ℕ) (bytes : (k : ℕ) �
   abbrev page : View
   page = turned (steepOf how) shown
 
-  entered : (before after : List ℕ) → PageIn source p (steepOf how) (fallsOf how) before after → Held how (p .width) (p .height) page after
+  entered : (before after : List ℕ) → PageIn source p (layoutOf how (p .width) (p .height)) before after → Held how (p .width) (p .height) page after
   entered before after into =
       record {
         absent = absent-turned (recipeBoxes how) (p .width) (p .height) (pixelIn source p) (steepOf how);
@@ -99,7 +100,7 @@ module _ (how : Recipe) (p : Placement) (source : List ℕ) (bytes : (k : ℕ) �
             ∙ ap some (sym (into .pixel r r-in c c-in));
       }
 
-  module _ (one two three four : List ℕ) (work : ℕ) (into : PageIn source p (steepOf how) (fallsOf how) one two) (through : PassDone how (p .width) (p .height) (operated (how .operation) (how .segment)) (workOf (how .operation) (how .segment) (p .width) (p .height)) 6 two three work) (whited : Painted (recipeBoxes how) (steepOf how) (fallsOf how) (p .width) (p .height) (how .white) three four) where
+  module _ (one two three four : List ℕ) (work : ℕ) (into : PageIn source p (layoutOf how (p .width) (p .height)) one two) (through : PassDone how (layoutOf how (p .width) (p .height)) (operated (how .operation) (how .segment)) (workOf (how .operation) (how .segment) (p .width) (p .height)) 6 two three work) (whited : Painted (recipeBoxes how) (layoutOf how (p .width) (p .height)) (how .white) three four) where
     held : Held how (p .width) (p .height) (operated (how .operation) (how .segment) page) three
     held = through .page page (entered one two into)
 
@@ -131,15 +132,20 @@ tables how n profile reaches np nr profiled reached =
       reaches-is = λ v h. reached .entry v (omega arith) ∙ ap (reach (how .segment .line) v) np;
     }
 
-pub tabled : (how : Recipe) (width height : ℕ) (profile reaches : List ℕ) → Tables how (downOf (steepOf how) width height) profile reaches → (low : Bool) → Tabled (gridOf how width height low) profile reaches
+tabled :
+    (how : Recipe) (lay : Layout) → lay ≡ layoutOf how (lay .width) (lay .height) → (profile reaches : List ℕ)
+    → Tables how (compactHeight lay) profile reaches → (low : Bool) → Tabled (gridOf how (lay .width) (lay .height) low) profile reaches
 unfolding gridOf
-tabled how width height profile reaches all low =
+tabled how lay laid profile reaches given low =
     record {
       profile-long = omega (arith, all .profile-size);
       reaches-long = omega (arith, all .reaches-size);
       profile-is = all .profile-is;
       reaches-is = all .reaches-is;
     }
+  where
+    all : Tables how (compactHeight (layoutOf how (lay .width) (lay .height))) profile reaches
+    all = subst (λ (l : Layout). Tables how (compactHeight l) profile reaches) laid given
 
 pub tables-as : (how : Recipe) (n : ℕ) (line : Line) (profile reaches : List ℕ) → line ≡ how .segment .line → length profile ≡ n → length reaches ≡ n → ProfileTable line profile
     → ((l : Line) → ProfileTable l profile → ReachTable l (length profile) reaches) → Tables how n profile reaches
@@ -150,55 +156,81 @@ tables-as how n line profile reaches is np nr profiled reached =
 pub tables-long : (how : Recipe) (n m : ℕ) (profile reaches : List ℕ) → n ≡ m → Tables how n profile reaches → Tables how m profile reaches
 tables-long how n m profile reaches e all = subst (λ (k : ℕ). Tables how k profile reaches) e all
 
-pub rows-most : (steep : Bool) (how : Recipe) (width height : ℕ) → BoxesLie how width height → downOf steep width height ≤ 8192
+pub rows-most : (how : Recipe) (lay : Layout) → BoxesLie how (lay .width) (lay .height) → compactHeight lay ≤ 8192
 unfolding downOf
-rows-most true how width height lie = lie .height-most
-rows-most false how width height lie = lie .width-most
+rows-most how lay lie = by-way (lay .steep)
+  where
+    by-way : (steep : Bool) → downOf steep (lay .width) (lay .height) ≤ 8192
+    by-way true = lie .height-most
+    by-way false = lie .width-most
 
 -- ---- what the code found, as the laws have it
 
-pub runs-asks :
-    (how : Recipe) (p : Placement) (source scratch : ℕ) → Enters how p source scratch → (profile reaches : List ℕ)
-    → Tables how (downOf (steepOf how) (p .width) (p .height)) profile reaches → (n : ℕ) → n ≡ scratch
-    → Runs how (p .width) (p .height) profile reaches n
-runs-asks how p source scratch enters profile reaches all n same =
-    record {
-      segment = enters .segment;
-      boxes = enters .boxes;
-      tables = tabled how (p .width) (p .height) profile reaches all;
-      two-pages = omega (arith, enters .room);
-    }
+module _ (how : Recipe) (p : Placement) (lay : Layout) (laid : lay ≡ layoutOf how (p .width) (p .height)) where
+  -- the layout by its own sides
+  pub laid-so : lay ≡ layoutOf how (lay .width) (lay .height)
+  laid-so =
+      subst (λ (l : Layout). l ≡ layoutOf how (l .width) (l .height)) {x = layoutOf how (p .width) (p .height)} {y = lay} (sym laid) refl
 
-pub ready-as :
-    (how : Recipe) (p : Placement) (source : List ℕ) → ((k : ℕ) → getD source k 0 < 256) → (steep falling : Bool)
-    (one two three four : List ℕ) (work : ℕ) → steep ≡ steepOf how → falling ≡ fallsOf how → PageIn source p steep falling one two
-    → PassDone how (p .width) (p .height) (operated (how .operation) (how .segment)) (workOf (how .operation) (how .segment) (p .width) (p .height)) 6 two three work
-    → Painted (recipeBoxes how) steep falling (p .width) (p .height) (how .white) three four → Ready how p source one four work
-ready-as how p source bytes steep falling one two three four work es ef into through whited =
-    ready how p source bytes one two three four work
-    (subst₂ (λ (s f : Bool). PageIn source p s f one two) es ef into)
-    through
-    (subst₂ (λ (s f : Bool). Painted (recipeBoxes how) s f (p .width) (p .height) (how .white) three four) es ef whited)
+  pub same-sides : SameSides lay p
+  same-sides = subst (λ (l : Layout). SameSides l p) (sym laid) (record { across = refl; down = refl })
+
+  pub runs-asks :
+      (source scratch : ℕ) → Enters how p source scratch → (profile reaches : List ℕ) → Tables how (compactHeight lay) profile reaches
+      → (n : ℕ) → n ≡ scratch → Runs how lay profile reaches n
+  runs-asks source scratch enters profile reaches all n same =
+      record {
+        segment = enters .segment;
+        laid = laid-so;
+        boxes = boxes-on enters;
+        tables = tabled how lay laid-so profile reaches all;
+        two-pages = room-in enters n same;
+      }
+    where
+      boxes-on : Enters how p source scratch → BoxesLie how (lay .width) (lay .height)
+      boxes-on e = subst (λ (l : Layout). BoxesLie how (l .width) (l .height)) (sym laid) (e .boxes)
+
+      room-in : Enters how p source scratch → (n : ℕ) → n ≡ scratch → lay .width * lay .height + lay .width * lay .height ≤ n
+      room-in e n same =
+          subst (λ (l : Layout). l .width * l .height + l .width * l .height ≤ n) (sym laid) (omega (arith, e .room))
+
+  pub boxes-lie : (source scratch : ℕ) → Enters how p source scratch → BoxesLie how (lay .width) (lay .height)
+  boxes-lie source scratch e = subst (λ (l : Layout). BoxesLie how (l .width) (l .height)) (sym laid) (e .boxes)
+
+  pub room-one : (source scratch : ℕ) → Enters how p source scratch → lay .width * lay .height ≤ scratch
+  room-one source scratch e = subst (λ (l : Layout). l .width * l .height ≤ scratch) (sym laid) (omega (arith, e .room))
+
+  pub ready-as :
+      (source : List ℕ) → ((k : ℕ) → getD source k 0 < 256) → (one two three four : List ℕ) (work : ℕ) → PageIn source p lay one two
+      → PassDone how lay (operated (how .operation) (how .segment)) (workOf (how .operation) (how .segment) (lay .width) (lay .height)) 6 two three work
+      → Painted (recipeBoxes how) lay (how .white) three four → Ready how p source one four work
+  ready-as source bytes one two three four work into through whited =
+      ready how p source bytes one two three four work
+      (subst (λ (l : Layout). PageIn source p l one two) laid into)
+      (subst (λ (l : Layout). PassDone how l (operated (how .operation) (how .segment)) (workOf (how .operation) (how .segment) (l .width) (l .height)) 6 two three work) laid through)
+      (subst (λ (l : Layout). Painted (recipeBoxes how) l (how .white) three four) laid whited)
 
 -- ---- out of it
 
-pub given-out :
-    (how : Recipe) (from to : Placement) (source output scratch used after : List ℕ) (work n m k : ℕ) → Fits how from to n m k
-    → (steep falling : Bool) → steep ≡ steepOf how → falling ≡ fallsOf how → Ready how from source scratch used work
-    → after ≡ written to (compactPixel used steep falling to) output → Filtered how from to source output scratch after used work
-unfolding compactPixel
-given-out how from to source output scratch used after work n m k fits steep falling es ef ready out =
-    record {
-      written-is =
-          out ∙ written-same to _ _ output (λ r r-in c c-in. place c r ∙ ready .pixel r (omega (arith, fits .same-height)) c (omega (arith, fits .same-width)));
-      same-length = ready .same-length;
-      rest = ready .rest;
-      work-is = ready .work-is;
-      work-few = ready .work-few;
-    }
-  where
-    place : (c r : ℕ) → getD used (compactAt steep falling (to .width) (to .height) c r) 0 ≡ getD used (placeOf how (from .width) (from .height) c r) 0
-    place c r = rw (es, ef, fits .same-width, fits .same-height) refl
+module _ (how : Recipe) (from to : Placement) (n m k : ℕ) (fits : Fits how from to n m k) (lay : Layout) (laid : lay ≡ layoutOf how (from .width) (from .height)) where
+  pub sides-out : SameSides lay to
+  sides-out = subst (λ (l : Layout). SameSides l to) (sym laid) (record { across = fits .same-width; down = fits .same-height })
 
-pub page-room : (how : Recipe) (from to : Placement) (n m k : ℕ) → Fits how from to n m k → to .width * to .height ≤ k
-page-room how from to n m k fits = rw (fits .same-width, fits .same-height) (omega (arith, fits .enters .room))
+  pub given-out :
+      (source output scratch used after : List ℕ) (work : ℕ) → Ready how from source scratch used work
+      → after ≡ written to (compactPixel used lay) output → Filtered how from to source output scratch after used work
+  unfolding compactPixel
+  given-out source output scratch used after work ready out =
+      record {
+        written-is =
+            out
+            ∙ written-same to _ _ output
+            (λ r r-in c c-in. ap (λ (l : Layout). getD used (compactAt l c r) 0) laid ∙ ready .pixel r (omega (arith, fits .same-height)) c (omega (arith, fits .same-width)));
+        same-length = ready .same-length;
+        rest = ready .rest;
+        work-is = ready .work-is;
+        work-few = ready .work-few;
+      }
+
+  pub rows-fit : compactHeight lay ≤ 8192
+  rows-fit = rows-most how lay (boxes-lie how from lay laid n k (fits .enters))

@@ -10,9 +10,10 @@ use lib.ListN.{length, getD, take}
 use lib.Seq.{take-suc}
 use borrow.Author.Tests.{leb-true, ltb-true, le-leb, lt-ltb}
 use Rattle.ticket.specs.declared.HiddenBox.{HiddenBox}
-use Rattle.tray.specs.Turned.{compactAt, Within, boxed}
-use Rattle.tray.specs.Promises.{OnPage, BoxPainted}
-use Rattle.tray.specs.declared.boxes.Rectangle.{Rectangle}
+use Rattle.tray.specs.Turned.{compactAt, InRectangle, boxed}
+use Rattle.tray.specs.Promises.{RectangleFits, BoxPainted}
+use Rattle.tray.specs.declared.Rectangle.{Rectangle}
+use Rattle.tray.specs.declared.Layout.{Layout}
 use Rattle.boxes.specs.Boxes.{covers, hidden, boxAllowed}
 use Rattle.filter.specs.Engine.{Painted}
 use Rattle.filter.proofs.Both.{and-true}
@@ -22,7 +23,7 @@ use Rattle.filter.proofs.Both.{and-true}
 abbrev rectangle : HiddenBox → Rectangle
 rectangle b = boxed (b .left) (b .top) (b .width) (b .height)
 
-covers-within : (b : HiddenBox) (c r : ℕ) → covers b c r ≡ true → Within (rectangle b) r c
+covers-within : (b : HiddenBox) (c r : ℕ) → covers b c r ≡ true → InRectangle (rectangle b) r c
 unfolding covers boxed
 covers-within b c r e =
     let both = and-true (leb (b .left) c && ltb c (b .left + b .width)) _ e in
@@ -35,7 +36,7 @@ covers-within b c r e =
       before-right = ltb-true _ _ (across .1);
     }
 
-within-covers : (b : HiddenBox) (c r : ℕ) → Within (rectangle b) r c → covers b c r ≡ true
+within-covers : (b : HiddenBox) (c r : ℕ) → InRectangle (rectangle b) r c → covers b c r ≡ true
 unfolding covers boxed
 within-covers b c r w =
     rw (le-leb (b .left) c (w .from-left), lt-ltb c (b .left + b .width) (w .before-right), le-leb (b .top) r (w .below-top), lt-ltb r (b .top + b .height) (w .above-bottom)) refl
@@ -61,7 +62,7 @@ module _ (w h : ℕ) (b : HiddenBox) (e : boxAllowed w h b ≡ true) where
         bottom-in = leb-true _ _ (ends .1);
       }
 
-  pub on-page : 1 ≤ w → 1 ≤ h → OnPage (rectangle b) w h
+  pub on-page : 1 ≤ w → 1 ≤ h → RectangleFits (rectangle b) w h
   unfolding boxed
   on-page wide high =
       record {
@@ -87,9 +88,9 @@ hidden-more boxes k b c r h is =
     ∙ hidden-append (take k boxes) (getD boxes k b) c r
     ∙ ap (λ (a : HiddenBox). hidden (take k boxes) c r || covers a c r) (sym is)
 
-pub painted-none : (steep falls : Bool) (width height value : ℕ) (page : List ℕ) → Painted [] steep falls width height value page page
+pub painted-none : (lay : Layout) (value : ℕ) (page : List ℕ) → Painted [] lay value page page
 unfolding hidden
-painted-none steep falls width height value page =
+painted-none lay value page =
     record {
       same-length = refl;
       hides = λ r r-in c c-in e. absurd (true≢false (sym e));
@@ -97,12 +98,12 @@ painted-none steep falls width height value page =
       rest = λ i h. refl;
     }
 
-module _ (boxes : List HiddenBox) (k : ℕ) (b : HiddenBox) (below : k < length boxes) (is : b ≡ getD boxes k b) (steep falls : Bool) (width height value : ℕ) (old mid new : List ℕ) where
+module _ (boxes : List HiddenBox) (k : ℕ) (b : HiddenBox) (below : k < length boxes) (is : b ≡ getD boxes k b) (lay : Layout) (value : ℕ) (old mid new : List ℕ) where
   -- a pixel that the boxes before hid, or this one does
   hides-case :
-      Painted (take k boxes) steep falls width height value old mid → BoxPainted steep falls width height (rectangle b) value mid new
-      → (here before : Bool) (c r : ℕ) → covers b c r ≡ here → hidden (take k boxes) c r ≡ before → before || here ≡ true → r < height → c < width
-      → getD new (compactAt steep falls width height c r) 0 ≡ value
+      Painted (take k boxes) lay value old mid → BoxPainted lay (rectangle b) value mid new
+      → (here before : Bool) (c r : ℕ) → covers b c r ≡ here → hidden (take k boxes) c r ≡ before → before || here ≡ true → r < lay .height → c < lay .width
+      → getD new (compactAt lay c r) 0 ≡ value
   hides-case done box true before c r covered was either r-in c-in = box .hidden r r-in c c-in (covers-within b c r covered)
   hides-case done box false before c r covered was either r-in c-in =
       box .shown r r-in c c-in (λ w. true≢false (sym (within-covers b c r w) ∙ covered)) ∙ done .hides r r-in c c-in (was ∙ sym (or-false before) ∙ either)
@@ -111,9 +112,9 @@ module _ (boxes : List HiddenBox) (k : ℕ) (b : HiddenBox) (below : k < length 
   or-none true q e = (e, absurd (true≢false e))
   or-none false q e = (refl, e)
 
-  pub painted-more : (x : Rectangle) → x ≡ rectangle b → Painted (take k boxes) steep falls width height value old mid → BoxPainted steep falls width height x value mid new → Painted (take (k + 1) boxes) steep falls width height value old new
+  pub painted-more : (x : Rectangle) → x ≡ rectangle b → Painted (take k boxes) lay value old mid → BoxPainted lay x value mid new → Painted (take (k + 1) boxes) lay value old new
   painted-more x same done at =
-      let box : BoxPainted steep falls width height (rectangle b) value mid new = subst (λ (y : Rectangle). BoxPainted steep falls width height y value mid new) same at in
+      let box : BoxPainted lay (rectangle b) value mid new = subst (λ (y : Rectangle). BoxPainted lay y value mid new) same at in
       record {
         same-length = box .size ∙ done .same-length;
         hides = λ r r-in c c-in e.

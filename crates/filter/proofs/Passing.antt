@@ -1,5 +1,5 @@
 -- One pass over the scratch filters the page that it holds. Assumes nothing.
-use mathlib.Core.Path.{_≡_, refl, sym, ap, ap₂, _∙_, subst, subst₃}
+use mathlib.Core.Path.{_≡_, refl, sym, ap, ap₂, _∙_, subst, subst₂}
 use mathlib.Core.Bool.{Bool, true, false, not, cond}
 use mathlib.Core.Option.{Option, none, some}
 use mathlib.Core.List.{List}
@@ -16,12 +16,13 @@ use Rattle.sweep.specs.Sweeps.{RowsHold, Passed}
 use Rattle.runs.specs.declared.Grid.{Grid}
 use Rattle.filter.specs.declared.Recipe.{Recipe}
 use Rattle.tray.specs.Turned.{acrossOf, downOf, compactColumn, compactAt}
+use Rattle.tray.specs.declared.Layout.{Layout}
 use Rattle.tray.specs.Laws.{down-in, across-in, compact-column-in, sides-product}
 use Rattle.boxes.specs.Boxes.{hidden}
 use Rattle.filter.specs.Seen.{View, turned}
 use Rattle.filter.specs.Filters.{pass, eroded, dilationBack, dilated, opened, closed, operated, recipeBoxes}
 use Rattle.filter.specs.Work.{passWork, erosionWork, dilationWork, workOf}
-use Rattle.filter.specs.Engine.{neutral, orNeutral, Absent, Bytes, Shows, steepOf, fallsOf, backOf, passed, passCost, gridOf, placeOf, Held, Painted, BoxesLie, Fair, Runs, PassDone}
+use Rattle.filter.specs.Engine.{neutral, orNeutral, Absent, Bytes, Shows, steepOf, fallsOf, layoutOf, backOf, passed, passCost, gridOf, placeOf, Held, Painted, BoxesLie, Fair, Runs, PassDone}
 use Rattle.filter.proofs.Bridge.{bridge}
 use Rattle.filter.proofs.Charges.{work}
 use Rattle.filter.proofs.Grids.{grid-sized}
@@ -53,9 +54,11 @@ pixel true width height M m rows columns = record { column = columns; row = rows
 pixel false width height M m rows columns = record { column = rows; row = columns; down = refl; across = refl }
 
 -- the compact column, written out
-column-as : (steep falling : Bool) (width height c r : ℕ) → compactColumn steep falling width height c r < acrossOf steep width height → mirrored falling (acrossOf steep width height) (acrossOf steep c r) < acrossOf steep width height
+column-as :
+    (lay : Layout) (c r : ℕ) → compactColumn lay c r < acrossOf (lay .steep) (lay .width) (lay .height)
+    → mirrored (lay .falls) (acrossOf (lay .steep) (lay .width) (lay .height)) (acrossOf (lay .steep) c r) < acrossOf (lay .steep) (lay .width) (lay .height)
 unfolding compactColumn
-column-as steep falling width height c r h = h
+column-as lay c r h = h
 
 -- ---- one pass
 
@@ -77,7 +80,7 @@ module _ (how : Recipe) (ok : Fair (how .segment)) (width height : ℕ) (lie : B
   unfolding compactAt compactColumn
   place-is c r = refl
 
-  module _ (old mid new : List ℕ) (count : ℕ) (painted : Painted (recipeBoxes how) (steepOf how) (fallsOf how) width height (neutral low) old mid) (swept : Passed g mid new count) where
+  module _ (old mid new : List ℕ) (count : ℕ) (painted : Painted (recipeBoxes how) (layoutOf how width height) (neutral low) old mid) (swept : Passed g mid new count) where
     -- the page that the sweeps see
     abbrev f : Page
     f R x = getD mid (0 + (R * W + x)) 0
@@ -127,10 +130,10 @@ module _ (how : Recipe) (ok : Fair (how .segment)) (width height : ℕ) (lie : B
           let columns : m < W = across-in (steepOf how) c r width height c-in r-in in
           let there = sym (turned-is (steepOf how) page c r) ∙ held .one-there r r-in c c-in e in
           let value = bridge g sized page absent (held .bytes) f shows M m _ rows columns there in
-          let column = compact-column-in (steepOf how) (fallsOf how) width height c r c-in r-in in
+          let column = compact-column-in (layoutOf how width height) c r c-in r-in in
           turned-is (steepOf how) after c r
           ∙ value
-          ∙ ap some (sym (ap (λ (i : ℕ). getD new i 0) (place-is c r ∙ sym (zero-add _)) ∙ made M rows (mirrored (fallsOf how) W m) (column-as (steepOf how) (fallsOf how) width height c r column)))
+          ∙ ap some (sym (ap (λ (i : ℕ). getD new i 0) (place-is c r ∙ sym (zero-add _)) ∙ made M rows (mirrored (fallsOf how) W m) (column-as (layoutOf how width height) c r column)))
 
       pub held-after : Held how width height after new
       held-after =
@@ -143,7 +146,7 @@ module _ (how : Recipe) (ok : Fair (how .segment)) (width height : ℕ) (lie : B
             one-there = one-after;
           }
 
-    pub pass-done : PassDone how width height (passed how low) (passCost how width height low) 3 old new count
+    pub pass-done : PassDone how (layoutOf how width height) (passed how low) (passCost how (layoutOf how width height) low) 3 old new count
     unfolding gridOf
     pass-done =
         let product = sides-product (steepOf how) width height in
@@ -161,32 +164,47 @@ two-pages : (how : Recipe) (width height : ℕ) (low : Bool) (n : ℕ) → width
 unfolding gridOf
 two-pages how width height low n h = omega (arith, sides-product (steepOf how) width height)
 
-pub painted-as : (how : Recipe) (steep falling : Bool) (value width height : ℕ) (low : Bool) (old mid : List ℕ) → steep ≡ steepOf how → falling ≡ fallsOf how → value ≡ neutral low
-    → Painted (recipeBoxes how) steep falling width height value old mid → Painted (recipeBoxes how) (steepOf how) (fallsOf how) width height (neutral low) old mid
-painted-as how steep falling value width height low old mid es ef ev painted =
-    subst₃ (λ (s f : Bool) (v : ℕ). Painted (recipeBoxes how) s f width height v old mid) es ef ev painted
+painted-as :
+    (how : Recipe) (lay : Layout) (value : ℕ) (low : Bool) (old mid : List ℕ) → lay ≡ layoutOf how (lay .width) (lay .height)
+    → value ≡ neutral low → Painted (recipeBoxes how) lay value old mid
+    → Painted (recipeBoxes how) (layoutOf how (lay .width) (lay .height)) (neutral low) old mid
+painted-as how lay value low old mid el ev painted =
+    subst₂ (λ (l : Layout) (v : ℕ). Painted (recipeBoxes how) l v old mid) el ev painted
 
-pub passed-as : (g h : Grid) (old new : List ℕ) (count : ℕ) → g ≡ h → Passed g old new count → Passed h old new count
+passed-as : (g h : Grid) (old new : List ℕ) (count : ℕ) → g ≡ h → Passed g old new count → Passed h old new count
 passed-as g h old new count e swept = subst (λ (q : Grid). Passed q old new count) e swept
 
 -- what a pass asks of its grid
-pub pass-asks : (how : Recipe) (width height : ℕ) (profile reaches : List ℕ) (room : ℕ) → Runs how width height profile reaches room → (low : Bool) (g : Grid) → g ≡ gridOf how width height low → (n : ℕ) → n ≡ room
-    → Sized g × Tabled g profile reaches × (size g + size g ≤ n)
-pass-asks how width height profile reaches room runs low g is n same =
-    subst (λ (q : Grid). Sized q × Tabled q profile reaches × (size q + size q ≤ n)) (sym is)
-    (grid-sized how (runs .segment) width height (lie .wide) (lie .high) (lie .width-most) (lie .height-most) low, runs .tables low, two)
+pub pass-asks :
+    (how : Recipe) (lay : Layout) (profile reaches : List ℕ) (room : ℕ) → Runs how lay profile reaches room → (low : Bool) (g : Grid)
+    → g ≡ gridOf how (lay .width) (lay .height) low → (n : ℕ) → n ≡ room → Sized g × Tabled g profile reaches × (size g + size g ≤ n)
+pass-asks how lay profile reaches room runs low g is n same =
+    subst (λ (q : Grid). Sized q × Tabled q profile reaches × (size q + size q ≤ n)) (sym is) (
+      grid-sized how (runs .segment) (lay .width) (lay .height) (lie .wide) (lie .high) (lie .width-most) (lie .height-most) low,
+      runs .tables low,
+      two-pages how (lay .width) (lay .height) low n (omega (arith, runs .two-pages)),
+    )
   where
-    lie : BoxesLie how width height
+    lie : BoxesLie how (lay .width) (lay .height)
     lie = runs .boxes
 
-    two : size (gridOf how width height low) + size (gridOf how width height low) ≤ n
-    two = two-pages how width height low n (omega (arith, runs .two-pages))
+-- a pass over a page laid out so
+pub pass-done-as :
+    (how : Recipe) (lay : Layout) (profile reaches : List ℕ) (room : ℕ) → Runs how lay profile reaches room → (low : Bool) (g : Grid)
+    → g ≡ gridOf how (lay .width) (lay .height) low → (value : ℕ) → value ≡ neutral low → (old mid new : List ℕ) (count : ℕ)
+    → Painted (recipeBoxes how) lay value old mid → Passed g mid new count
+    → PassDone how lay (passed how low) (passCost how lay low) 3 old new count
+pass-done-as how lay profile reaches room runs low g is value ev old mid new count painted swept =
+    subst (λ (l : Layout). PassDone how l (passed how low) (passCost how l low) 3 old new count) (sym (runs .laid))
+    (pass-done how (runs .segment) (lay .width) (lay .height) (runs .boxes) low old mid new count
+    (painted-as how lay value low old mid (runs .laid) ev painted)
+    (passed-as g (gridOf how (lay .width) (lay .height) low) mid new count is swept))
 
 -- ---- two passes
 
-module _ (how : Recipe) (width height : ℕ) where
-  pub passes-then : (F G : View → View) (a b : ℕ) (old mid new : List ℕ) (n m : ℕ) → PassDone how width height F a 3 old mid n → PassDone how width height G b 3 mid new m
-      → PassDone how width height (λ (page : View). G (F page)) (a + b) 6 old new (n + m)
+module _ (how : Recipe) (lay : Layout) where
+  pub passes-then : (F G : View → View) (a b : ℕ) (old mid new : List ℕ) (n m : ℕ) → PassDone how lay F a 3 old mid n → PassDone how lay G b 3 mid new m
+      → PassDone how lay (λ (page : View). G (F page)) (a + b) 6 old new (n + m)
   passes-then F G a b old mid new n m first second =
       record {
         same-length = second .same-length ∙ first .same-length;
@@ -198,7 +216,7 @@ module _ (how : Recipe) (width height : ℕ) where
 
 -- ---- the four operations
 
-module _ (how : Recipe) (width height : ℕ) where
+module _ (how : Recipe) (lay : Layout) (laid : lay ≡ layoutOf how (lay .width) (lay .height)) where
   eroded-is : (page : View) → passed how true page ≡ eroded (how .segment) page
   unfolding eroded backOf
   eroded-is page = refl
@@ -207,30 +225,35 @@ module _ (how : Recipe) (width height : ℕ) where
   unfolding dilated backOf
   dilated-is page = refl
 
-  sides-as : (steep : Bool) → (cond steep height width ≡ downOf steep width height) × (cond steep width height ≡ acrossOf steep width height)
+  sides-as :
+      (steep : Bool)
+      → (cond steep (lay .height) (lay .width) ≡ downOf steep (lay .width) (lay .height))
+      × (cond steep (lay .width) (lay .height) ≡ acrossOf steep (lay .width) (lay .height))
   unfolding downOf acrossOf
   sides-as true = (refl, refl)
   sides-as false = (refl, refl)
 
-  eroding-is : passCost how width height true ≡ erosionWork (how .segment) width height
+  eroding-is : passCost how lay true ≡ erosionWork (how .segment) (lay .width) (lay .height)
   unfolding backOf erosionWork
   eroding-is =
-      ap₂ (λ (h w : ℕ). passWork (how .segment .line) h w (how .segment .length) (how .segment .origin)) (sym (sides-as (steepOf how) .0))
+      ap (λ (steep : Bool). passWork (how .segment .line) (downOf steep (lay .width) (lay .height)) (acrossOf steep (lay .width) (lay .height)) (how .segment .length) (how .segment .origin)) (ap (λ (l : Layout). l .steep) laid)
+      ∙ ap₂ (λ (h w : ℕ). passWork (how .segment .line) h w (how .segment .length) (how .segment .origin)) (sym (sides-as (steepOf how) .0))
       (sym (sides-as (steepOf how) .1))
 
-  dilating-is : passCost how width height false ≡ dilationWork (how .segment) width height
+  dilating-is : passCost how lay false ≡ dilationWork (how .segment) (lay .width) (lay .height)
   unfolding backOf dilationWork
   dilating-is =
-      ap₂ (λ (h w : ℕ). passWork (how .segment .line) h w (how .segment .length) (dilationBack (how .segment)))
+      ap (λ (steep : Bool). passWork (how .segment .line) (downOf steep (lay .width) (lay .height)) (acrossOf steep (lay .width) (lay .height)) (how .segment .length) (dilationBack (how .segment))) (ap (λ (l : Layout). l .steep) laid)
+      ∙ ap₂ (λ (h w : ℕ). passWork (how .segment .line) h w (how .segment .length) (dilationBack (how .segment)))
       (sym (sides-as (steepOf how) .0))
       (sym (sides-as (steepOf how) .1))
 
   -- what an operation makes and costs, by its number
   pub record Is (filter : View → View) (work : ℕ) : Type 0 where
     pub filter-is : (page : View) → filter page ≡ operated (how .operation) (how .segment) page
-    pub work-is : work ≡ workOf (how .operation) (how .segment) width height
+    pub work-is : work ≡ workOf (how .operation) (how .segment) (lay .width) (lay .height)
 
-  pub erosion-is : how .operation ≡ 1 → Is (passed how true) (passCost how width height true)
+  pub erosion-is : how .operation ≡ 1 → Is (passed how true) (passCost how lay true)
   unfolding operated workOf
   erosion-is e =
       record {
@@ -238,7 +261,7 @@ module _ (how : Recipe) (width height : ℕ) where
         work-is = eroding-is ∙ sym (rw (eq-eqb (how .operation) 1 e) refl);
       }
 
-  pub dilation-is : how .operation ≡ 2 → Is (passed how false) (passCost how width height false)
+  pub dilation-is : how .operation ≡ 2 → Is (passed how false) (passCost how lay false)
   unfolding operated workOf
   dilation-is e =
       let not-one = ne-eqb (how .operation) 1 (λ o. omega arith) in
@@ -251,7 +274,7 @@ module _ (how : Recipe) (width height : ℕ) where
     pub two-passes-are :
         (opens : Bool) → eqb (how .operation) 3 ≡ opens
         → Is (λ (page : View). passed how (not opens) (passed how opens page))
-        (passCost how width height opens + passCost how width height (not opens))
+        (passCost how lay opens + passCost how lay (not opens))
     unfolding operated opened closed workOf
     two-passes-are true e =
         let off-one = ne-eqb (how .operation) 1 one in
@@ -271,20 +294,20 @@ module _ (how : Recipe) (width height : ℕ) where
         }
 
   pub operated-as :
-      (F : View → View) (a k : ℕ) (old new : List ℕ) (n : ℕ) → k * (width * height) ≤ 6 * (width * height) → Is F a
-      → PassDone how width height F a k old new n
-      → PassDone how width height (operated (how .operation) (how .segment)) (workOf (how .operation) (how .segment) width height) 6 old new n
+      (F : View → View) (a k : ℕ) (old new : List ℕ) (n : ℕ) → k * (lay .width * lay .height) ≤ 6 * (lay .width * lay .height) → Is F a
+      → PassDone how lay F a k old new n
+      → PassDone how lay (operated (how .operation) (how .segment)) (workOf (how .operation) (how .segment) (lay .width) (lay .height)) 6 old new n
   operated-as F a k old new n grows is done =
       record {
         same-length = done .same-length;
         rest = done .rest;
-        page = λ page held. subst (λ (p : View). Held how width height p new) (is .filter-is page) (done .page page held);
+        page = λ page held. subst (λ (p : View). Held how (lay .width) (lay .height) p new) (is .filter-is page) (done .page page held);
         counted = done .counted ∙ is .work-is;
         few = omega (arith, done .few);
       }
 
-pub runs-as : (how : Recipe) (width height : ℕ) (profile reaches : List ℕ) (n m : ℕ) → n ≡ m → Runs how width height profile reaches m → Runs how width height profile reaches n
-runs-as how width height profile reaches n m e runs = subst (Runs how width height profile reaches) (sym e) runs
+pub runs-as : (how : Recipe) (lay : Layout) (profile reaches : List ℕ) (n m : ℕ) → n ≡ m → Runs how lay profile reaches m → Runs how lay profile reaches n
+runs-as how lay profile reaches n m e runs = subst (Runs how lay profile reaches) (sym e) runs
 
 -- how many pixels a page may have
 pub pixels-most : (how : Recipe) (width height : ℕ) → BoxesLie how width height → width * height ≤ 67108864

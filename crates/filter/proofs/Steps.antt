@@ -10,7 +10,7 @@ use Rattle.geometry.specs.Line.{stepOf, majorAt}
 use Rattle.geometry.specs.Number.{inPage, behind, ahead}
 use Rattle.geometry.specs.Drift.{Inside, falls, mirrored}
 use Rattle.geometry.specs.Laws.{mirrored-below, inside, inside-in-page, consecutive, behind-low}
-use Rattle.geometry.specs.Normal.{and-true}
+use Rattle.filter.proofs.Both.{and-true}
 use Rattle.runs.specs.Grid.{Sized, startRow, lineName, entry, leave, steps, rowAt, number, lineSteps}
 use Rattle.runs.specs.GridLaws as grid
 use Rattle.runs.specs.GridLaws.{OnPage, on-page, on-line}

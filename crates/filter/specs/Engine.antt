@@ -15,7 +15,8 @@ use Rattle.runs.specs.declared.Grid.{Grid}
 use Rattle.ticket.specs.declared.HiddenBox.{HiddenBox}
 use Rattle.tray.specs.Placement.{pixelIn}
 use Rattle.tray.specs.Promises.{Placed}
-use Rattle.tray.specs.Turned.{acrossOf, downOf, compactAt}
+use Rattle.tray.specs.Turned.{acrossOf, downOf, compactHeight, compactWidth, compactAt}
+use Rattle.tray.specs.declared.Layout.{Layout}
 use Rattle.tray.specs.declared.Placement.{Placement}
 use Rattle.filter.specs.Seen.{View, runsSteep, turned}
 use Rattle.filter.specs.Filters.{dilationBack, pass, recipeBoxes, filteredPage}
@@ -62,10 +63,13 @@ backOf s false = dilationBack s
 abbrev pub passed : Recipe → Bool → View → View
 passed how low page = pass low (how .segment .line) (backOf (how .segment) low) (how .segment .length) page
 
-abbrev pub passCost : Recipe → ℕ → ℕ → Bool → ℕ
-passCost how width height low =
-    passWork (how .segment .line) (downOf (steepOf how) width height) (acrossOf (steepOf how) width height) (how .segment .length)
-    (backOf (how .segment) low)
+abbrev pub passCost : Recipe → Layout → Bool → ℕ
+passCost how lay low =
+    passWork (how .segment .line) (compactHeight lay) (compactWidth lay) (how .segment .length) (backOf (how .segment) low)
+
+-- how its page is laid out in the scratch
+abbrev pub layoutOf : Recipe → ℕ → ℕ → Layout
+layoutOf how width height = record { steep = steepOf how; falls = fallsOf how; width = width; height = height }
 
 unfoldable pub gridOf : Recipe → ℕ → ℕ → Bool → Grid
 gridOf how width height low =
@@ -84,7 +88,7 @@ gridOf how width height low =
 
 -- a pixel's byte in the scratch
 abbrev pub placeOf : Recipe → ℕ → ℕ → ℕ → ℕ → ℕ
-placeOf how width height c r = compactAt (steepOf how) (fallsOf how) width height c r
+placeOf how width height c r = compactAt (layoutOf how width height) c r
 
 -- the scratch holds a page: nothing is there where a box hides, and what is there stands at its place
 pub record Held (how : Recipe) (width height : ℕ) (page : View) (scratch : List ℕ) : Type 0 where
@@ -108,14 +112,14 @@ pub record BoxesLie (how : Recipe) (width height : ℕ) : Type 0 where
   pub each : (k : ℕ) (b : HiddenBox) → k < how .count → boxAllowed width height (getD (how .boxes) k b) ≡ true
 
 -- the pixels that one of the boxes hides hold the value, every other byte is as it was
-pub record Painted (boxes : List HiddenBox) (steep falls : Bool) (width height value : ℕ) (before after : List ℕ) : Type 0 where
+pub record Painted (boxes : List HiddenBox) (lay : Layout) (value : ℕ) (before after : List ℕ) : Type 0 where
   pub same-length : length after ≡ length before
   pub hides :
-      (r : ℕ) → r < height → (c : ℕ) → c < width → hidden boxes c r ≡ true → getD after (compactAt steep falls width height c r) 0 ≡ value
+      (r : ℕ) → r < lay .height → (c : ℕ) → c < lay .width → hidden boxes c r ≡ true → getD after (compactAt lay c r) 0 ≡ value
   pub shows :
-      (r : ℕ) → r < height → (c : ℕ) → c < width → hidden boxes c r ≡ false
-      → getD after (compactAt steep falls width height c r) 0 ≡ getD before (compactAt steep falls width height c r) 0
-  pub rest : (i : ℕ) → width * height ≤ i → getD after i 0 ≡ getD before i 0
+      (r : ℕ) → r < lay .height → (c : ℕ) → c < lay .width → hidden boxes c r ≡ false
+      → getD after (compactAt lay c r) 0 ≡ getD before (compactAt lay c r) 0
+  pub rest : (i : ℕ) → lay .width * lay .height ≤ i → getD after i 0 ≡ getD before i 0
 
 -- ---- one pass
 
@@ -127,19 +131,20 @@ pub record Fair (s : Segment) : Type 0 where
   pub origin-below : s .origin < s .length
 
 -- what a pass asks: a segment and a page within its limits with its boxes, the line's tables, and room for two pages
-pub record Runs (how : Recipe) (width height : ℕ) (profile reaches : List ℕ) (room : ℕ) : Type 0 where
+pub record Runs (how : Recipe) (lay : Layout) (profile reaches : List ℕ) (room : ℕ) : Type 0 where
   pub segment : Fair (how .segment)
-  pub boxes : BoxesLie how width height
-  pub tables : (low : Bool) → Tabled (gridOf how width height low) profile reaches
-  pub two-pages : width * height + width * height ≤ room
+  pub laid : lay ≡ layoutOf how (lay .width) (lay .height)
+  pub boxes : BoxesLie how (lay .width) (lay .height)
+  pub tables : (low : Bool) → Tabled (gridOf how (lay .width) (lay .height) low) profile reaches
+  pub two-pages : lay .width * lay .height + lay .width * lay .height ≤ room
 
 -- what it leaves: the page filtered, and nothing behind the two pages changed, with at most so many comparisons a pixel
-pub record PassDone (how : Recipe) (width height : ℕ) (filter : View → View) (work most : ℕ) (before after : List ℕ) (count : ℕ) : Type 0 where
+pub record PassDone (how : Recipe) (lay : Layout) (filter : View → View) (work most : ℕ) (before after : List ℕ) (count : ℕ) : Type 0 where
   pub same-length : length after ≡ length before
-  pub rest : (i : ℕ) → width * height + width * height ≤ i → getD after i 0 ≡ getD before i 0
-  pub page : (page : View) → Held how width height page before → Held how width height (filter page) after
+  pub rest : (i : ℕ) → lay .width * lay .height + lay .width * lay .height ≤ i → getD after i 0 ≡ getD before i 0
+  pub page : (page : View) → Held how (lay .width) (lay .height) page before → Held how (lay .width) (lay .height) (filter page) after
   pub counted : count ≡ work
-  pub few : count ≤ most * (width * height)
+  pub few : count ≤ most * (lay .width * lay .height)
 
 -- ---- a page taken in
 

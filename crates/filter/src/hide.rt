@@ -9,7 +9,8 @@ ghost use Rattle.filter.specs.Filters.{recipeBoxes};
 ghost use Rattle.filter.specs.Engine.{BoxesLie, Painted};
 use super::Recipe;
 use ticket::HiddenBox;
-use tray::boxes::Rectangle;
+use tray::Layout;
+use tray::Rectangle;
 
 // A box as some rows and columns of the page.
 fn rectangle_of(b: HiddenBox, width: usize, height: usize) -> Rectangle
@@ -25,25 +26,17 @@ fn rectangle_of(b: HiddenBox, width: usize, height: usize) -> Rectangle
 }
 
 // Every pixel that a box hides takes the value.
-pub fn hide(
-    how: Recipe,
-    steep: bool,
-    falls: bool,
-    width: usize,
-    height: usize,
-    page: &mut [u8],
-    value: u8,
-)
-    requires { ⌜ BoxesLie how width height × (width * height ≤ length (now page)) ⌝ }
-    ensures { λ _. ⌜ Painted (recipeBoxes how) steep falls width height value (now (page .entry)) (now (page .exit)) ⌝ }
+pub fn hide(how: Recipe, lay: Layout, page: &mut [u8], value: u8)
+    requires { ⌜ BoxesLie how (lay .width) (lay .height) × (lay .width * lay .height ≤ length (now page)) ⌝ }
+    ensures { λ _. ⌜ Painted (recipeBoxes how) lay value (now (page .entry)) (now (page .exit)) ⌝ }
 {
     let boxes = how.boxes;
     let count = how.count;
     let mut k: usize = 0;
     while k < count {
         let b = boxes[k];
-        let x = rectangle_of(b, width, height);
-        tray::boxes::paint_box(page, steep, falls, width, height, x, value);
+        let x = rectangle_of(b, lay.width, lay.height);
+        tray::boxes::paint_box(page, lay, x, value);
         k += 1;
     }
 }

@@ -3,12 +3,13 @@ ghost use mathlib.Core.Path.{_≡_};
 ghost use Prim.Native.Nat.{_+_, _*_, _≤_};
 ghost use lib.ListN.{length};
 ghost use Rattle.geometry.specs.Drift.{Allowed};
-ghost use Rattle.tray.specs.Turned.{downOf};
-ghost use Rattle.filter.specs.Engine.{steepOf, Tables, Enters, Ready};
+ghost use Rattle.tray.specs.Turned.{compactHeight};
+ghost use Rattle.filter.specs.Engine.{layoutOf, Tables, Enters, Ready};
 ghost use Rattle.filter.specs.Promises.{Fits, Filtered};
 use super::Recipe;
 use super::hide::hide;
 use super::passes;
+use tray::Layout;
 use tray::Placement;
 
 // A table for the longest side.
@@ -31,6 +32,7 @@ fn fill_tables(how: Recipe, profile: &mut [usize], reaches: &mut [usize])
 // The page taken into the scratch, filtered there, and its hidden pixels painted white. It answers the comparisons.
 fn filter_in(
     how: Recipe,
+    lay: Layout,
     source: &[u8],
     from: Placement,
     scratch: &mut [u8],
@@ -38,44 +40,45 @@ fn filter_in(
     reaches: &[usize],
 ) -> usize
     requires { ⌜ Enters how from (length (now source)) (length (now scratch)) ⌝ }
-    requires { ⌜ Tables how (downOf (steepOf how) (from .width) (from .height)) (now profile) (now reaches) ⌝ }
+    requires { ⌜ lay ≡ layoutOf how (from .width) (from .height) ⌝ }
+    requires { ⌜ Tables how (compactHeight lay) (now profile) (now reaches) ⌝ }
     ensures { λ r. ⌜ Ready how from (now (source .entry)) (now (scratch .entry)) (now (scratch .exit)) r ⌝ }
 {
-    let steep = passes::is_steep(how);
-    let falls = passes::does_fall(how);
-    let width = from.width;
-    let height = from.height;
-    tray::turn::page_in(source, from, steep, falls, scratch);
-    let work = passes::filter_held(how, width, height, profile, reaches, scratch);
-    hide(how, steep, falls, width, height, scratch, how.white);
+    tray::turn::page_in(source, from, lay, scratch);
+    let work = passes::filter_held(how, lay, profile, reaches, scratch);
+    hide(how, lay, scratch, how.white);
     work
+}
+
+// Where a page is filtered from, where to, and how it is laid out on the way.
+struct Way {
+    from: Placement,
+    to: Placement,
+    lay: Layout,
 }
 
 // The same, with room for the line's tables, and the page given out.
 fn filter_with(
     how: Recipe,
+    way: Way,
     source: &[u8],
-    from: Placement,
     output: &mut [u8],
-    to: Placement,
     scratch: &mut [u8],
     profile: &mut [usize],
     reaches: &mut [usize],
 ) -> usize
-    requires { ⌜ Fits how from to (length (now source)) (length (now output)) (length (now scratch)) ⌝ }
-    requires { ⌜ length (now profile) ≡ downOf (steepOf how) (from .width) (from .height) ⌝ }
+    requires { ⌜ Fits how (way .from) (way .to) (length (now source)) (length (now output)) (length (now scratch)) ⌝ }
+    requires { ⌜ way .lay ≡ layoutOf how (way .from .width) (way .from .height) ⌝ }
+    requires { ⌜ length (now profile) ≡ compactHeight (way .lay) ⌝ }
     requires { ⌜ length (now reaches) ≡ length (now profile) ⌝ }
-    ensures { λ r. ⌜ Filtered how from to (now (source .entry)) (now (output .entry)) (now (scratch .entry)) (now (output .exit)) (now (scratch .exit)) r ⌝ }
+    ensures { λ r. ⌜ Filtered how (way .from) (way .to) (now (source .entry)) (now (output .entry)) (now (scratch .entry)) (now (output .exit)) (now (scratch .exit)) r ⌝ }
 {
+    let from = way.from;
+    let to = way.to;
+    let lay = way.lay;
     fill_tables(how, profile, reaches);
-    let work = filter_in(how, source, from, scratch, profile, reaches);
-    tray::turn::page_out(
-        scratch,
-        passes::is_steep(how),
-        passes::does_fall(how),
-        to,
-        output,
-    );
+    let work = filter_in(how, lay, source, from, scratch, profile, reaches);
+    tray::turn::page_out(scratch, lay, to, output);
     work
 }
 
@@ -94,13 +97,18 @@ pub fn filter(
 {
     let mut profile = no_entries();
     let mut reaches = no_entries();
-    let rows = passes::down(passes::is_steep(how), from.width, from.height);
+    let lay = passes::layout_of(how, from.width, from.height);
+    let rows = tray::sides::compact_height(lay);
+    let way = Way {
+        from: from,
+        to: to,
+        lay: lay,
+    };
     filter_with(
         how,
+        way,
         source,
-        from,
         output,
-        to,
         scratch,
         &mut profile[..rows],
         &mut reaches[..rows],

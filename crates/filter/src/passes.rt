@@ -3,15 +3,16 @@ ghost use mathlib.Core.Path.{_≡_};
 ghost use Prim.Native.Nat.{_+_, _*_, _≤_, _<_};
 ghost use lib.ListN.{length};
 ghost use Rattle.geometry.specs.Drift.{Allowed};
-ghost use Rattle.tray.specs.Turned.{acrossOf, downOf};
 ghost use Rattle.filter.specs.Filters.{operated};
 ghost use Rattle.filter.specs.Work.{workOf};
-ghost use Rattle.filter.specs.Engine.{neutral, steepOf, fallsOf, backOf, gridOf, Fair, Runs, PassDone, passed, passCost};
+ghost use Rattle.filter.specs.Engine.{neutral, steepOf, fallsOf, layoutOf, backOf, gridOf, Fair, Runs, PassDone};
+ghost use Rattle.filter.specs.Engine.{passed, passCost};
 use super::Recipe;
 use super::Segment;
 use super::hide::hide;
 use geometry::Line;
 use runs::Grid;
+use tray::Layout;
 
 // The operations, as a ticket numbers them.
 const EROSION: usize = 1;
@@ -27,8 +28,7 @@ pub fn line_of(how: Recipe) -> Line
     segment.line
 }
 
-// Whether its lines are steep, and whether they fall.
-pub fn is_steep(how: Recipe) -> bool
+fn is_steep(how: Recipe) -> bool
     requires { ⌜ Allowed (how .segment .line) ⌝ }
     ensures { λ r. ⌜ r ≡ steepOf how ⌝ }
 {
@@ -36,21 +36,24 @@ pub fn is_steep(how: Recipe) -> bool
     geometry::vector::is_steep(line.dx, line.dy)
 }
 
-pub fn does_fall(how: Recipe) -> bool
+fn does_fall(how: Recipe) -> bool
     requires { ⌜ Allowed (how .segment .line) ⌝ }
     ensures { λ r. ⌜ r ≡ fallsOf how ⌝ }
 {
     geometry::normal::falls(line_of(how))
 }
 
-// How many rows the page in normal form has.
-pub fn down(steep: bool, width: usize, height: usize) -> usize
-    ensures { λ r. ⌜ r ≡ downOf steep width height ⌝ }
+// How a page of these sides is laid out in the scratch, by the way its lines run.
+pub fn layout_of(how: Recipe, width: usize, height: usize) -> Layout
+    requires { ⌜ Allowed (how .segment .line) ⌝ }
+    ensures { λ r. ⌜ r ≡ layoutOf how width height ⌝ }
 {
-    if steep {
-        return height;
+    Layout {
+        steep: is_steep(how),
+        falls: does_fall(how),
+        width: width,
+        height: height,
     }
-    width
 }
 
 // The value for an absent pixel: no byte loses against it.
@@ -74,18 +77,17 @@ fn back_of(s: Segment, low: bool) -> usize
     s.length - 1 - s.origin
 }
 
-fn grid_of(how: Recipe, width: usize, height: usize, low: bool) -> Grid
-    requires { ⌜ Fair (how .segment) ⌝ }
-    ensures { λ r. ⌜ r ≡ gridOf how width height low ⌝ }
+fn grid_of(how: Recipe, lay: Layout, low: bool) -> Grid
+    requires { ⌜ Fair (how .segment) × (lay ≡ layoutOf how (lay .width) (lay .height)) ⌝ }
+    ensures { λ r. ⌜ r ≡ gridOf how (lay .width) (lay .height) low ⌝ }
 {
     let line = line_of(how);
-    let steep = is_steep(how);
     let segment = how.segment;
     let back = back_of(segment, low);
     Grid {
         line: line,
-        width: tray::boxes::across(steep, width, height),
-        height: down(steep, width, height),
+        width: tray::sides::compact_width(lay),
+        height: tray::sides::compact_height(lay),
         period: geometry::normal::period_of(line),
         back: back,
         on: segment.length - 1 - back,
@@ -97,46 +99,42 @@ fn grid_of(how: Recipe, width: usize, height: usize, low: bool) -> Grid
 // One pass: hidden pixels are absent, every other becomes its window's extreme. It answers the comparisons.
 fn one_pass(
     how: Recipe,
-    width: usize,
-    height: usize,
+    lay: Layout,
     low: bool,
     profile: &[usize],
     reaches: &[usize],
     scratch: &mut [u8],
 ) -> usize
-    requires { ⌜ Runs how width height (now profile) (now reaches) (length (now scratch)) ⌝ }
-    ensures { λ r. ⌜ PassDone how width height (passed how low) (passCost how width height low) 3 (now (scratch .entry)) (now (scratch .exit)) r ⌝ }
+    requires { ⌜ Runs how lay (now profile) (now reaches) (length (now scratch)) ⌝ }
+    ensures { λ r. ⌜ PassDone how lay (passed how low) (passCost how lay low) 3 (now (scratch .entry)) (now (scratch .exit)) r ⌝ }
 {
-    let steep = is_steep(how);
-    let falls = does_fall(how);
     let absent = neutral_of(low);
-    hide(how, steep, falls, width, height, scratch, absent);
-    let g = grid_of(how, width, height, low);
+    hide(how, lay, scratch, absent);
+    let g = grid_of(how, lay, low);
     sweep::rows::pass(g, profile, reaches, scratch)
 }
 
 // The recipe's operation over the page in the scratch. It answers the comparisons.
 pub fn filter_held(
     how: Recipe,
-    width: usize,
-    height: usize,
+    lay: Layout,
     profile: &[usize],
     reaches: &[usize],
     scratch: &mut [u8],
 ) -> usize
-    requires { ⌜ Runs how width height (now profile) (now reaches) (length (now scratch)) ⌝ }
+    requires { ⌜ Runs how lay (now profile) (now reaches) (length (now scratch)) ⌝ }
     requires { ⌜ (1 ≤ how .operation) × (how .operation ≤ 4) ⌝ }
-    ensures { λ r. ⌜ PassDone how width height (operated (how .operation) (how .segment)) (workOf (how .operation) (how .segment) width height) 6 (now (scratch .entry)) (now (scratch .exit)) r ⌝ }
+    ensures { λ r. ⌜ PassDone how lay (operated (how .operation) (how .segment)) (workOf (how .operation) (how .segment) (lay .width) (lay .height)) 6 (now (scratch .entry)) (now (scratch .exit)) r ⌝ }
 {
     let operation = how.operation;
     if operation == EROSION {
-        return one_pass(how, width, height, true, profile, reaches, scratch);
+        return one_pass(how, lay, true, profile, reaches, scratch);
     }
     if operation == DILATION {
-        return one_pass(how, width, height, false, profile, reaches, scratch);
+        return one_pass(how, lay, false, profile, reaches, scratch);
     }
     let opens = operation == OPENING;
-    let first = one_pass(how, width, height, opens, profile, reaches, scratch);
-    let second = one_pass(how, width, height, !opens, profile, reaches, scratch);
+    let first = one_pass(how, lay, opens, profile, reaches, scratch);
+    let second = one_pass(how, lay, !opens, profile, reaches, scratch);
     first + second
 }

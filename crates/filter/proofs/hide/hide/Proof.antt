@@ -5,8 +5,8 @@ use native.Mathlib.Omega.{arith}
 use borrow.Author.Needs.{needs}
 use lib.ListN.{take}
 use Rattle.ticket.specs.Reading.{noBox}
-use Rattle.tray.specs.Promises.{OnPage}
-use Rattle.tray.specs.declared.boxes.Rectangle.{Rectangle}
+use Rattle.tray.specs.Promises.{RectangleFits}
+use Rattle.tray.specs.declared.Rectangle.{Rectangle}
 use Rattle.filter.specs.Filters.{recipeBoxes}
 use Rattle.filter.specs.Engine.{Painted}
 use Rattle.filter.proofs.Hiding.{on-page, painted-none, painted-more, own-default}
@@ -14,14 +14,14 @@ use Rattle.filter.proofs.hide.hide.Statement.{statement}
 use Rattle.filter.proofs.hide.hide.Tie as tie
 
 abbrev Inv-loop : tie.InvT-loop
-Inv-loop steep falls width height page₀ value boxes count k₀ page k =
-    (k ≤ count) × Painted (take k boxes) steep falls width height value page₀ page
+Inv-loop lay page₀ value boxes count k₀ page k =
+    (k ≤ count) × Painted (take k boxes) lay value page₀ page
 
 abbrev μ-loop : tie.MeasureT-loop
-μ-loop steep falls width height page₀ value boxes count k₀ page k = count - k
+μ-loop lay page₀ value boxes count k₀ page k = count - k
 
 loop-holds : tie.Need-loop-holds Inv-loop μ-loop
-loop-holds c = (omega arith, painted-none _ _ _ _ _ _)
+loop-holds c = (omega arith, painted-none _ _ _)
 
 mul-b : tie.Need-mul-b Inv-loop μ-loop
 mul-b c = record { fits = omega (arith, c .before .before .before .before .pre .0 .count-most) }
@@ -39,7 +39,7 @@ paint-box-requires c κs =
     let start = c .before .before .before .before .before .before .before in
     let lie = start .pre .0 in
     let l = c .before .before .before .before .loop in (
-      subst (λ (x : Rectangle). OnPage x (start .args .width) (start .args .height)) (sym (c .before .rectangle-of .ensures)) (on-page _ _ _ (lie .each (l .k) noBox (omega arith)) (lie .wide) (lie .high)),
+      subst (λ (x : Rectangle). RectangleFits x (start .args .lay .width) (start .args .lay .height)) (sym (c .before .rectangle-of .ensures)) (on-page _ _ _ (lie .each (l .k) noBox (omega arith)) (lie .wide) (lie .high)),
       omega (arith, start .pre .1, l .inv .1 .same-length),
     )
 
@@ -53,7 +53,7 @@ loop-again c =
     let lie = start .pre .0 in
     let l = c .before .before .before .before .before .before .before .loop in (
       omega arith,
-      painted-more (a .how .boxes) (l .k) _ (omega (arith, lie .places, lie .count-most)) (own-default (a .how .boxes) (l .k) noBox) _ _ _ _ _ _ _ _ _ (c .before .before .before .before .rectangle-of .ensures) (l .inv .1) (c .before .before .paint-box .ensures),
+      painted-more (a .how .boxes) (l .k) _ (omega (arith, lie .places, lie .count-most)) (own-default (a .how .boxes) (l .k) noBox) _ _ _ _ _ _ (c .before .before .before .before .rectangle-of .ensures) (l .inv .1) (c .before .before .paint-box .ensures),
     )
 
 same-length : tie.Need-same-length Inv-loop μ-loop
@@ -65,7 +65,7 @@ returns c =
     let a = c .before .before .before .before .args in
     let l = c .before .loop in
     let e : l .k ≡ a .how .count = omega arith in
-    subst (λ (n : ℕ). Painted (take n (a .how .boxes)) (a .steep) (a .falls) (a .width) (a .height) (a .value) (a .page .now) (l .page)) e (l .inv .1)
+    subst (λ (n : ℕ). Painted (take n (a .how .boxes)) (a .lay) (a .value) (a .page .now) (l .page)) e (l .inv .1)
 
 pub hide-spec : {M : Type 1} → statement M
 hide-spec =

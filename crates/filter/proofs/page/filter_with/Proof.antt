@@ -1,32 +1,45 @@
 -- `filter::page::filter_with` meets its contract: tables, filter, out. Assumes nothing.
+use mathlib.Core.Path.{sym}
 use native.Mathlib.Omega.{arith}
 use borrow.Author.Needs.{needs}
-use Rattle.filter.specs.Engine.{steepOf}
-use Rattle.filter.proofs.Finishing.{given-out, page-room, tables-long, rows-most}
+use Rattle.filter.proofs.Finishing.{boxes-lie, sides-out, given-out, room-one, tables-long, rows-most}
 use Rattle.filter.proofs.page.filter_with.Statement.{statement}
 use Rattle.filter.proofs.page.filter_with.Tie as tie
 
 fill-tables-requires : tie.Need-fill-tables-requires
 fill-tables-requires c κs =
-    let start = c .before .before .before .before .before .before .before in
-    let enters = start .pre .0 .enters in
-    (enters .segment .line, omega (arith, start .pre .1 .0, rows-most (steepOf (start .args .how)) _ _ _ (enters .boxes)), start .pre .1 .1)
+    let start = c .before .before .before .before .before .before .before .before .before .before in
+    let a = start .args in
+    let pre = start .pre in
+    let enters = pre .0 .enters in
+    let most = rows-most (a .how) (a .way .lay) (boxes-lie (a .how) (a .way .from) (a .way .lay) (pre .1 .0) _ _ enters) in
+    (enters .segment .line, omega (arith, pre .1 .1 .0, most), pre .1 .1 .1)
 
 filter-in-requires : tie.Need-filter-in-requires
 filter-in-requires c κs =
-    let start = c .before .before .before .before .before .before .before .before .before .before .before .before .before .before .before in
-    (start .pre .0 .enters, tables-long _ _ _ _ _ (start .pre .1 .0) (c .before .before .before .before .before .before .before .fill-tables .ensures))
+    let start = c .before .before .before .before .before .before .before .before .before .before .before .before .before .before .before .before .before .before in
+    let a = start .args in
+    let pre = start .pre in
+    (pre .0 .enters, (pre .1 .0, tables-long _ _ _ _ _ (pre .1 .1 .0) (c .before .before .before .before .before .before .before .fill-tables .ensures)))
 
 page-out-requires : tie.Need-page-out-requires
 page-out-requires c κs =
-    let start = c .before .before .before .before .before .before .before .before .before .before .before .before .before .before .before .before .before .before .before .before .before .before in
-    let fits = start .pre .0 in
-    (fits .to-tray, omega (arith, page-room _ _ _ _ _ _ fits, c .before .before .before .before .before .before .filter-in .ensures .same-length))
+    let start = c .before .before .before .before .before .before .before .before .before .before .before .before .before .before .before .before .before .before .before .before .before .before .before in
+    let a = start .args in
+    let pre = start .pre in (
+      pre .0 .to-tray,
+      (
+        sides-out (a .how) (a .way .from) (a .way .to) _ _ _ (pre .0) (a .way .lay) (pre .1 .0),
+        omega (arith, room-one (a .how) (a .way .from) (a .way .lay) (pre .1 .0) _ _ (pre .0 .enters), c .before .before .before .before .filter-in .ensures .same-length),
+      ),
+    )
 
 returns : tie.Need-returns
 returns c =
-    let start = c .before .before .before .before .before .before .before .before .before .before .before .before .before .before .before .before .before .before .before .before .before .before .before .before .before in
-    given-out _ _ _ _ _ _ _ _ _ _ _ _ (start .pre .0) _ _ (c .before .before .before .before .before .is-steep .ensures) (c .before .before .before .before .does-fall .ensures) (c .before .before .before .before .before .before .before .before .before .filter-in .ensures) (c .before .before .page-out .ensures)
+    let start = c .before .before .before .before .before .before .before .before .before .before .before .before .before .before .before .before .before .before .before .before .before .before .before .before .before .before in
+    let a = start .args in
+    let pre = start .pre in
+    given-out (a .how) (a .way .from) (a .way .to) _ _ _ (pre .0) (a .way .lay) (pre .1 .0) _ _ _ _ _ _ (c .before .before .before .before .before .before .before .filter-in .ensures) (c .before .before .page-out .ensures)
 
 pub filter-with-spec : {M : Type 1} → statement M
 filter-with-spec =
@@ -34,8 +47,6 @@ filter-with-spec =
     (tie.spec
     fill-tables-requires
     filter-in-requires
-    (λ c κs. search needs)
-    (λ c κs. search needs)
     page-out-requires
     (λ c. search needs)
     (λ c. search needs)
