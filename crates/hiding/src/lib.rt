@@ -38,15 +38,7 @@ pub fn hide_one(b: HiddenBox, lay: Layout, page: &mut [u8], value: u8)
     ensures { λ _. ⌜ BoxesPainted (b ∷ []) lay value (now (page .entry)) (now (page .exit)) ⌝ }
 {
     let x = rectangle_of(b, lay.width, lay.height);
-    tray::boxes::paint_box(
-        page,
-        lay.steep,
-        lay.falls,
-        lay.width,
-        lay.height,
-        x,
-        value,
-    );
+    tray::boxes::paint_box(page, lay.steep, lay.falls, lay.width, lay.height, x, value);
 }
 
 // Every pixel that one of the lent boxes hides takes the value; every other byte is as it was.
@@ -62,13 +54,7 @@ pub fn hide(boxes: &[HiddenBox], lay: Layout, page: &mut [u8], value: u8)
 }
 
 // The same with the first count boxes of an array: the array's front is lent.
-pub fn hide_first(
-    boxes: [HiddenBox; 64],
-    count: usize,
-    lay: Layout,
-    page: &mut [u8],
-    value: u8,
-)
+pub fn hide_first(boxes: [HiddenBox; 64], count: usize, lay: Layout, page: &mut [u8], value: u8)
     requires { ⌜ (count ≤ 64) × Hideable (take count boxes) lay (length (now page)) ⌝ }
     ensures { λ _. ⌜ BoxesPainted (take count boxes) lay value (now (page .entry)) (now (page .exit)) ⌝ }
 {

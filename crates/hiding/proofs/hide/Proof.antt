@@ -51,7 +51,6 @@ use denote.Triple.Spec.{Meets, tripleOf}
 use denote.Triple.Table.{entered, cited}
 use denote.Triple.Clauses.{ensured, lasts}
 use denote.Triple.Walked.{says, needs, Stays, stay-none-slice, stay-none, stay-slice, walkOf, goes-none-slice, goes-none, goes-slice, Walks, ends-at, walked, walk-meets}
-use borrow.Table.Owned as owned-as
 use borrow.Rule.Slice.Lend.{keptF, sl-relend, sl-relent-backˡ}
 use Rattle.ticket.specs.declared.HiddenBox.{HiddenBox}
 use Rattle.ticket.specs.Reading.{noBox}
@@ -59,6 +58,7 @@ use Rattle.ticket.proofs.HiddenBox as T
 use Rattle.ticket.proofs.HiddenBox.Laws as T′
 use Rattle.hiding.specs.declared.Layout.{Layout}
 use Rattle.hiding.specs.Hiding.{Hideable, BoxesPainted}
+use Rattle.hiding.proofs.Page.{ref, Page, page-in, page-out}
 use Rattle.hiding.proofs.Painting.{painted-none, painted-more, hideable-one}
 use Rattle.hiding.proofs.Layout as L
 use Rattle.hiding.proofs.Layout.Laws as L′
@@ -139,21 +139,6 @@ module _ {M : Type 1} (𝓤 : URA M) (H : Heap 𝓤) (A : Atoms 𝓤) (mem″ : 
   abbrev One : Contract 𝓤
   One = tripleOf 𝓤 H A one.signature (one.spec 𝓤 H A mem″ run″)
 
--- ---- the page at (d, p): what is had of it, and lending it
-module _ {M : Type 1} (𝓤 : URA M) (H : Heap 𝓤) (A : Atoms 𝓤) (W : Given 𝓤 H A) (d p : ℕ) where
-  abbrev ref : GName → List ℕ → RefT (List ℕ)
-  ref δ zs = record { ptr = (d, p); name = δ; now = zs }
-
-  abbrev Page : Lft → GName → List ℕ → Fml
-  Page κ δ zs = owned-as.MutSlice erased κ u8 .own (ref δ zs)
-
-  page-in : (ℓ : Lifetime) (κ : Lft) (δ : GName) (zs : List ℕ) (vs : List Val) → ent 𝓤 (sem 𝓤 H A (MutSlice ℓ κ u8 .own (ref δ zs) vs)) (sem 𝓤 H A (Page κ δ zs))
-  page-in ℓ κ δ zs vs = qed W (‵ (MutSlice ℓ κ u8 .own (ref δ zs) vs) ∷ []) ∵ fsplit ! $ fsplit ! $ drop ! $ fjoin ! $ done !
-
-  page-out : (ℓ : Lifetime) (κ : Lft) (δ : GName) (zs : List ℕ) (n : ℕ) → length zs ≡ n → ent 𝓤 (sem 𝓤 H A (Page κ δ zs)) (sem 𝓤 H A (MutSlice ℓ κ u8 .own (ref δ zs) (sliceVal (d, p) n ∷ [])))
-  page-out ℓ κ δ zs n e =
-      qed W (‵ (Page κ δ zs) ∷ []) ∵ fsplit ! $ feqI ! (List Val) (sliceVal (d, p) n ∷ []) (sliceVal (d, p) (length zs) ∷ []) (ap (λ (m : ℕ). sliceVal (d, p) m ∷ []) (sym e)) $ fjoin ! $ fjoin ! $ done !
-
 module _ {M : Type 1} (𝓤 : URA M) (H : Heap 𝓤) (A : Atoms 𝓤) (W : Given 𝓤 H A) (mem″ : Memory → SProp 𝓤) (run″ : Routine → Fun 𝓤)
     (κ κ′ : Lft) (q q′ : Share) (b o : ℕ) (γ : GName) (ys : List HiddenBox) (lay : Layout) (d p : ℕ) (δ : GName) (page : List ℕ) (value : ℕ)
     (gn : Room T.the-row (length ys)) (gl : Is L.the-row lay (lay-vals lay)) (gp : length page < 2 ^ 64) (gv : value < 2 ^ 8) (asked : Hideable ys lay (length page)) where
@@ -190,7 +175,7 @@ module _ {M : Type 1} (𝓤 : URA M) (H : Heap 𝓤) (A : Atoms 𝓤) (W : Given
 
   -- what is had of the page
   abbrev Has : List ℕ → Item 𝓤
-  Has zs = ‵ (Page 𝓤 H A W d p κ′ δ zs)
+  Has zs = ‵ (Page d p κ′ δ zs)
 
   exits : (zs : List ℕ) → BoxesPainted ys lay value page zs → ent 𝓤 (⋆ 𝓤 H A (Bor ∷ ‵ (flft κ q) ∷ Has zs ∷ ‵ (flft κ′ q′) ∷ Res ∷ Says ∷ [])) (Post vunit)
   exits zs e =
@@ -198,7 +183,7 @@ module _ {M : Type 1} (𝓤 : URA M) (H : Heap 𝓤) (A : Atoms 𝓤) (W : Given
       suffices ! _ (ends-at 𝓤 H A hide.ended stayed (hide.clauses 𝓤 H A mem″ run″) W bound vunit tt (tt, (tt, (zs, (tt, tt)))) (tt, (tt, (e .same-length, (tt, tt))))) $ says ! e $
       -- [the lent boxes; their token; the page; its token]
       nothing ! $ owned ! u8 (Is u8) (uint-makes 𝓤 H A W w8) value _ (refl, gv) $ fjoin ! $ move ! (3 ∷ 0 ∷ []) $
-      use1 W (‵ (MutSlice (named 1) κ′ u8 .own (ref 𝓤 H A W d p δ zs) (page-val ∷ []))) (page-out 𝓤 H A W d p (named 1) κ′ δ zs (length page) (e .same-length)) $ fjoin ! $
+      use1 W (‵ (MutSlice (named 1) κ′ u8 .own (ref d p δ zs) (page-val ∷ []))) (page-out d p 𝓤 H A W (named 1) κ′ δ zs (length page) (e .same-length)) $ fjoin ! $
       owned ! L.the-row (Is L.the-row) (LL.makes L.the-type L′.the-plain 𝓤 H A) lay _ gl $ fjoin ! $ move ! (1 ∷ 0 ∷ []) $ fjoin ! $
       nothing ! $ move ! (3 ∷ 0 ∷ []) $ join ! $ move ! (2 ∷ 0 ∷ []) $ join ! $ frame ! $ frame ! $ feqI ! (List Val) (vunit ∷ []) (vunit ∷ []) refl $ done !
 
@@ -232,18 +217,18 @@ module _ {M : Type 1} (𝓤 : URA M) (H : Heap 𝓤) (A : Atoms 𝓤) (W : Given
   -- ---- the call, with the page lent for the lifetime α under the name ε
   module _ (s : State) (less : s .k < length ys) (is : Is T.the-row (box (s .k)) (box-vals (box (s .k)))) (α : ℕ) (ε : GName) where
     abbrev lent : RefT (List ℕ)
-    lent = ref 𝓤 H A W d p ε (s .zs)
+    lent = ref d p ε (s .zs)
 
     -- what `hide_one`'s triple binds outside
     abbrev callee : One 𝓤 H A mem″ run″ .Ghost
     callee = (((α ∷ [], tt), (fullShare, tt), tt, (box (s .k), (lay, (lent, (value, tt)))), (box-vals (box (s .k)), (lay-vals lay, (page-val ∷ [], (vint w8 value ∷ [], tt))))), tt)
 
-    goes : ent 𝓤 (sep 𝓤 (A .lft (α ∷ []) fullShare) (sem 𝓤 H A (Page 𝓤 H A W d p (α ∷ []) ε (s .zs)))) (One 𝓤 H A mem″ run″ .pre callee)
+    goes : ent 𝓤 (sep 𝓤 (A .lft (α ∷ []) fullShare) (sem 𝓤 H A (Page d p (α ∷ []) ε (s .zs)))) (One 𝓤 H A mem″ run″ .pre callee)
     goes =
-        qed W (‵ (flft (α ∷ []) fullShare) ∷ ‵ (Page 𝓤 H A W d p (α ∷ []) ε (s .zs)) ∷ []) ∵
+        qed W (‵ (flft (α ∷ []) fullShare) ∷ ‵ (Page d p (α ∷ []) ε (s .zs)) ∷ []) ∵
         says ! (hideable-one ys lay (s .k) noBox (length page) (length (s .zs)) asked less (s .painted .same-length)) $
         nothing ! $ owned ! u8 (Is u8) (uint-makes 𝓤 H A W w8) value _ (refl, gv) $ fjoin ! $ move ! (2 ∷ 0 ∷ []) $
-        use1 W (‵ (MutSlice (named 0) (α ∷ []) u8 .own lent (page-val ∷ []))) (page-out 𝓤 H A W d p (named 0) (α ∷ []) ε (s .zs) (length page) (s .painted .same-length)) $ fjoin ! $
+        use1 W (‵ (MutSlice (named 0) (α ∷ []) u8 .own lent (page-val ∷ []))) (page-out d p 𝓤 H A W (named 0) (α ∷ []) ε (s .zs) (length page) (s .painted .same-length)) $ fjoin ! $
         owned ! L.the-row (Is L.the-row) (LL.makes L.the-type L′.the-plain 𝓤 H A) lay _ gl $ fjoin ! $
         owned ! T.the-row (Is T.the-row) (LL.makes T.the-type T′.the-plain 𝓤 H A) (box (s .k)) _ is $ fjoin ! $
         nothing ! $ move ! (2 ∷ 0 ∷ []) $ join ! $ frame ! $ done !
@@ -312,7 +297,7 @@ module _ {M : Type 1} (𝓤 : URA M) (H : Heap 𝓤) (A : Atoms 𝓤) (W : Given
         assigns ! (agg ! (and-then ! (load ! (from ! (stop !)) (look ! 4 refl)) (and-then ! (load ! (from ! (fld ! refl (stop !))) (look-in ! 20 (sub ! 1 refl (whole !)))) (no-more !)))) (from ! (stop !)) (init ! 2 refl (tt, (tt, (record { fits = gp }, tt)))) $
         -- the page is lent for a lifetime that is made here
         move ! (28 ∷ 29 ∷ []) $ lft-new ! tt (λ α. move ! (1 ∷ 2 ∷ []) $
-        use2 W (later (some (λ (ε : GName). ‵ (Page 𝓤 H A W d p (α ∷ []) ε (s .zs)) ⊛ ‵ (keptF u8 κ′ q′ (α ∷ []) δ ε (s .zs) d p)))) (sl-relend 𝓤 H A W u8 κ′ q′ (α ∷ []) d p δ (s .zs)) $ await ! tt $ pick ! (λ ε. split ! $
+        use2 W (later (some (λ (ε : GName). ‵ (Page d p (α ∷ []) ε (s .zs)) ⊛ ‵ (keptF u8 κ′ q′ (α ∷ []) δ ε (s .zs) d p)))) (sl-relend 𝓤 H A W u8 κ′ q′ (α ∷ []) d p δ (s .zs)) $ await ! tt $ pick ! (λ ε. split ! $
         move ! (2 ∷ 0 ∷ []) $ use2 W (raw (One 𝓤 H A mem″ run″ .pre (callee s (ltb→lt (s .k) (length ys) less) is α ε))) (goes s (ltb→lt (s .k) (length ys) less) is α ε) $
         -- [what is asked; what is kept; the token; the fractured borrow; the locals from 4 on; res; the slice's facts]
         calls-at ! (fmOf 𝓤 H (W .laws) 𝓣) (One 𝓤 H A mem″ run″) known (callee s (ltb→lt (s .k) (length ys) less) is α ε)
@@ -347,7 +332,7 @@ module _ {M : Type 1} (𝓤 : URA M) (H : Heap 𝓤) (A : Atoms 𝓤) (W : Given
       assigns ! (of-opd ! (lit ! tt)) (from ! (stop !)) (init ! 14 refl (tt, record { fits = lit< tt })) $
       move ! (27 ∷ []) $ fsplit ! $ fsplit ! $ move ! (1 ∷ []) $ fsplit ! $
       -- [res; the fractured borrow; the slice's facts; the other parameters; the locals from 4 on; the tokens]
-      move ! (3 ∷ []) $ fsplit ! $ drop ! $ fsplit ! $ use1 W (Has page) (page-in 𝓤 H A W d p (named 1) κ′ δ page (page-val ∷ [])) $
+      move ! (3 ∷ []) $ fsplit ! $ drop ! $ fsplit ! $ use1 W (Has page) (page-in d p 𝓤 H A W (named 1) κ′ δ page (page-val ∷ [])) $
       move ! (31 ∷ []) $ split ! $ move ! (1 ∷ []) $ split ! $
       -- [the page's token; true; the boxes' token; the page; the value; res; the fractured borrow; the slice's facts; the locals from 8 on]
       keep ! (8 ∷ 9 ∷ 10 ∷ 11 ∷ 12 ∷ 13 ∷ 14 ∷ 15 ∷ 16 ∷ 17 ∷ 18 ∷ 19 ∷ 20 ∷ 21 ∷ 22 ∷ 23 ∷ 24 ∷ 25 ∷ 26 ∷ 27 ∷ 28 ∷ 29 ∷ 30 ∷ 31 ∷ 32 ∷ 33 ∷ 6 ∷ 2 ∷ 3 ∷ 0 ∷ 5 ∷ 7 ∷ []) $
@@ -364,9 +349,13 @@ module _ {M : Type 1} (𝓤 : URA M) (H : Heap 𝓤) (A : Atoms 𝓤) (W : Given
       (are .0 .0 .1) (are .1 .0) (are .1 .1 .0 .0 .1 .0) (are .1 .1 .1 .0 .1) asked 𝓣 known))
 
   hide-meets : Meets 𝓤 H A hide.signature (WpFn 𝓤 H (𝓣 .C) (𝓣 .Λ) code.function) (hide.spec 𝓤 H A mem″ run″)
-  hide-meets = walk-meets 𝓤 H A hide.ended stayed W
-      (goes-none-slice 𝓤 H A W 2 (0 ∷ []) tt (plain (λ _. T.the-row)) yes, (goes-none 𝓤 H A W 2 (λ _. L.the-row) yes (λ κs x f. refl),
-      (goes-slice 𝓤 H A W 2 1 tt (plain (λ _. u8)), (goes-none 𝓤 H A W 2 (λ _. u8) yes (λ κs x f. refl), tt))))
+  hide-meets = walk-meets 𝓤 H A hide.ended stayed W (
+    goes-none-slice 𝓤 H A W 2 (0 ∷ []) tt (plain (λ _. T.the-row)) yes,
+    (
+      goes-none 𝓤 H A W 2 (λ _. L.the-row) yes (λ κs x f. refl),
+      (goes-slice 𝓤 H A W 2 1 tt (plain (λ _. u8)), (goes-none 𝓤 H A W 2 (λ _. u8) yes (λ κs x f. refl), tt)),
+    ),
+  )
       (hide.clauses 𝓤 H A mem″ run″) (WpFn 𝓤 H (𝓣 .C) (𝓣 .Λ) code.function) (WpFn-mono 𝓤 H (W .laws) 𝓣 code.function) hide-walks
 
 pub hide-spec : {M : Type 1} → stated.statement M

@@ -35,7 +35,7 @@ returns c =
     painted-one (a .lay) (a .value) (a .b) (now (a .page)) (c .before .before .paint-box .last .0)
     (subst
     (λ (x : Rectangle).
-        BoxPainted (a .lay .steep) (a .lay .falls) (a .lay .width) (a .lay .height) x (a .value) (now (a .page)) (c .before .before .paint-box .last .0))
+    BoxPainted (a .lay .steep) (a .lay .falls) (a .lay .width) (a .lay .height) x (a .value) (now (a .page)) (c .before .before .paint-box .last .0))
     (c .before .before .before .before .rectangle-of .ensures)
     (c .before .before .paint-box .ensures))
 
