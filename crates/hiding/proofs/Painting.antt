@@ -1,25 +1,20 @@
 -- Painting the boxes one by one. Assumes nothing.
 use mathlib.Core.Path.{_≡_, refl, sym, ap, _∙_, subst}
-use mathlib.Core.Bool.{Bool, true, false, _&&_, _||_, or-false, or-assoc, true≢false}
+use mathlib.Core.Bool.{Bool, true, false, _||_, or-false, true≢false}
 use mathlib.Core.List.{List, [], _∷_, _++_}
 use Prim.Native.Nat.{ℕ, zero, suc, _+_, _≤_, _<_}
 use native.Mathlib.Numerals.{add-one}
 use native.Mathlib.Omega.{arith}
-use lib.Dec.{leb, ltb}
 use lib.ListN.{length, getD, take}
 use lib.Seq.{take-suc}
-use borrow.Author.Tests.{leb-true, ltb-true, le-leb, lt-ltb}
 use Rattle.ticket.specs.declared.HiddenBox.{HiddenBox}
 use Rattle.tray.specs.Turned.{Within, boxed}
 use Rattle.tray.specs.Promises.{OnPage, BoxPainted}
 use Rattle.tray.specs.declared.boxes.Rectangle.{Rectangle}
 use Rattle.boxes.specs.Boxes.{covers, hidden, boxAllowed}
+use Rattle.boxes.specs.Laws.{covers-inside, inside-covers, hidden-append, allowed-lies}
 use Rattle.hiding.specs.declared.Layout.{Layout}
 use Rattle.hiding.specs.Hiding.{area, placeOn, BoxesLie, Hideable, BoxesPainted}
-
-and-true : (a b : Bool) → a && b ≡ true → (a ≡ true) × (b ≡ true)
-and-true true b e = (refl, e)
-and-true false b e = absurd (true≢false (sym e))
 
 -- ---- a box as a rectangle
 
@@ -27,60 +22,39 @@ abbrev pub rectangle : HiddenBox → Rectangle
 rectangle b = boxed (b .left) (b .top) (b .width) (b .height)
 
 covers-within : (b : HiddenBox) (c r : ℕ) → covers b c r ≡ true → Within (rectangle b) r c
-unfolding covers boxed
+unfolding boxed
 covers-within b c r e =
-    let both = and-true (leb (b .left) c && ltb c (b .left + b .width)) _ e in
-    let across = and-true (leb (b .left) c) _ (both .0) in
-    let down = and-true (leb (b .top) r) _ (both .1) in
+    let i = covers-inside b c r e in
     record {
-      below-top = leb-true _ _ (down .0);
-      above-bottom = ltb-true _ _ (down .1);
-      from-left = leb-true _ _ (across .0);
-      before-right = ltb-true _ _ (across .1);
+      below-top = i .from-top;
+      above-bottom = i .before-bottom;
+      from-left = i .from-left;
+      before-right = i .before-right;
     }
 
 within-covers : (b : HiddenBox) (c r : ℕ) → Within (rectangle b) r c → covers b c r ≡ true
-unfolding covers boxed
+unfolding boxed
 within-covers b c r w =
-    rw (
-      le-leb (b .left) c (w .from-left),
-      lt-ltb c (b .left + b .width) (w .before-right),
-      le-leb (b .top) r (w .below-top),
-      lt-ltb r (b .top + b .height) (w .above-bottom),
-    ) refl
+    inside-covers b c r
+    (record {
+      from-left = w .from-left;
+      before-right = w .before-right;
+      from-top = w .below-top;
+      before-bottom = w .above-bottom;
+    })
 
-module _ (w h : ℕ) (b : HiddenBox) (e : boxAllowed w h b ≡ true) where
-  -- what a box that is allowed is, as facts
-  pub record Lies : Type 0 where
-    pub some-wide : 1 ≤ b .width
-    pub some-high : 1 ≤ b .height
-    pub right-in : b .left + b .width ≤ w
-    pub bottom-in : b .top + b .height ≤ h
-
-  pub lies : Lies
-  unfolding boxAllowed
-  lies =
-      let both = and-true (leb 1 (b .width) && leb 1 (b .height)) _ e in
-      let sides = and-true (leb 1 (b .width)) _ (both .0) in
-      let ends = and-true (leb (b .left + b .width) w) _ (both .1) in
-      record {
-        some-wide = leb-true _ _ (sides .0);
-        some-high = leb-true _ _ (sides .1);
-        right-in = leb-true _ _ (ends .0);
-        bottom-in = leb-true _ _ (ends .1);
-      }
-
-  pub on-page : 1 ≤ w → 1 ≤ h → OnPage (rectangle b) w h
-  unfolding boxed
-  on-page wide high =
-      record {
-        width-least = wide;
-        height-least = high;
-        wide = omega arith;
-        high = omega arith;
-        right-in = lies .right-in;
-        bottom-in = lies .bottom-in;
-      }
+pub on-page : (w h : ℕ) (b : HiddenBox) → boxAllowed w h b ≡ true → 1 ≤ w → 1 ≤ h → OnPage (rectangle b) w h
+unfolding boxed
+on-page w h b e wide high =
+    let lies = allowed-lies w h b e in
+    record {
+      width-least = wide;
+      height-least = high;
+      wide = omega arith;
+      high = omega arith;
+      right-in = lies .right-in;
+      bottom-in = lies .bottom-in;
+    }
 
 -- ---- no box, one box, and more
 
@@ -113,13 +87,8 @@ module _ (lay : Layout) (value : ℕ) where
         rest = box .rest;
       }
 
-  module _ (xs ys : List HiddenBox) (old mid new : List ℕ) (done : BoxesPainted xs lay value old mid) (more : BoxesPainted ys lay value mid new) where
-    hidden-append : (zs : List HiddenBox) (c r : ℕ) → hidden (zs ++ ys) c r ≡ hidden zs c r || hidden ys c r
-    unfolding hidden
-    hidden-append [] c r = refl
-    hidden-append (z ∷ zs) c r =
-        ap (λ (q : Bool). covers z c r || q) (hidden-append zs c r) ∙ sym (or-assoc (covers z c r) (hidden zs c r) (hidden ys c r))
-
+  module _ (xs ys : List HiddenBox) (old mid new : List ℕ)
+      (done : BoxesPainted xs lay value old mid) (more : BoxesPainted ys lay value mid new) where
     -- a pixel that the boxes before hid, or these do
     hides-case :
         (before here : Bool) (c r : ℕ) → hidden xs c r ≡ before → hidden ys c r ≡ here → before || here ≡ true
@@ -133,9 +102,9 @@ module _ (lay : Layout) (value : ℕ) where
         record {
           same-length = more .same-length ∙ done .same-length;
           hides = λ r r-in c c-in e.
-              hides-case (hidden xs c r) (hidden ys c r) c r refl refl (sym (hidden-append xs c r) ∙ e) r-in c-in;
+              hides-case (hidden xs c r) (hidden ys c r) c r refl refl (sym (hidden-append xs ys c r) ∙ e) r-in c-in;
           shows = λ r r-in c c-in e.
-              let neither = or-none (hidden xs c r) (hidden ys c r) (sym (hidden-append xs c r) ∙ e) in
+              let neither = or-none (hidden xs c r) (hidden ys c r) (sym (hidden-append xs ys c r) ∙ e) in
               more .shows r r-in c c-in (neither .1) ∙ done .shows r r-in c c-in (neither .0);
           rest = λ i h. more .rest i h ∙ done .rest i h;
         }
@@ -152,7 +121,9 @@ module _ (lay : Layout) (value : ℕ) where
 
 -- ---- what is asked, box by box
 
-pub lie-one : (boxes : List HiddenBox) (lay : Layout) (k : ℕ) (d : HiddenBox) → BoxesLie boxes lay → k < length boxes → BoxesLie (getD boxes k d ∷ []) lay
+lie-one :
+    (boxes : List HiddenBox) (lay : Layout) (k : ℕ) (d : HiddenBox) → BoxesLie boxes lay → k < length boxes
+    → BoxesLie (getD boxes k d ∷ []) lay
 lie-one boxes lay k d lie below =
     record {
       wide = lie .wide;
@@ -168,7 +139,7 @@ lie-one boxes lay k d lie below =
 
 -- box k may be painted on a page as long as the one that all the boxes are asked of
 pub hideable-one :
-    (boxes : List HiddenBox) (lay : Layout) (k : ℕ) (d : HiddenBox) (bytes now : ℕ) → Hideable boxes lay bytes → k < length boxes → now ≡ bytes
-    → Hideable (getD boxes k d ∷ []) lay now
+    (boxes : List HiddenBox) (lay : Layout) (k : ℕ) (d : HiddenBox) (bytes now : ℕ) → Hideable boxes lay bytes
+    → k < length boxes → now ≡ bytes → Hideable (getD boxes k d ∷ []) lay now
 hideable-one boxes lay k d bytes now asked below same =
     record { lie = lie-one boxes lay k d (asked .lie) below; room = subst (λ (n : ℕ). area lay ≤ n) (sym same) (asked .room) }
