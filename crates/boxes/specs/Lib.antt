@@ -1,2 +1,3 @@
 pub mod Boxes
 pub mod First
+pub mod Laws
