@@ -1,5 +1,6 @@
--- Judgements one after the other, each an answer. Document 01, 'Refusals and what they return': "Fields are judged one by one":
--- so the first refusal is the answer. Behind the two definitions stand the laws that others cite. Assumes nothing.
+-- Judgements one after the other, each an answer. Document 01, 'Refusals and what they return': "Fields are judged
+-- one by one": so the first refusal is the answer. Behind the two definitions stand the laws that others cite.
+-- Assumes nothing.
 use mathlib.Core.Path.{_≡_, refl, ap}
 use Prim.Native.Nat.{ℕ}
 use mathlib.Core.Bool.{Bool, true, false, true≢false, false≢true}

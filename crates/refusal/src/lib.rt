@@ -1,6 +1,7 @@
-// What a reader or a job answers: that it is done, with its work, or one of document 01's refusals with its place. No function
-// has a `requires`. The definitions stand in specs/: Refusal (the numbers), Answer (number, place and work), Chain (judgements
-// one after the other, and their laws). A further refusal is one case here and one number in `report` and specs/Refusal.
+// What a reader or a job answers: that it is done, with its work, or one of document 01's refusals with its place. No
+// function has a `requires`. The definitions stand in specs/: Refusal (the numbers), Answer (number, place and work),
+// Chain (judgements one after the other, and their laws). A further refusal is one case here and one number in
+// `report` and specs/Refusal.
 pub mod chain; // chain.rt: judgements one after the other
 pub mod report; // report.rt: an answer as numbers
 

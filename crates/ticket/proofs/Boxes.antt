@@ -8,7 +8,7 @@ use mathlib.Core.Bool.{Bool, true, false, cond}
 use mathlib.Core.List.{List, [], _∷_, _++_, append-nil}
 use lib.ListN.{length, take, drop, set, replicate, take-append-drop, length-set}
 use lib.Seq.{take-suc-set, append-snoc, drop-set-lt, drop-drop, length-take-le}
-use lib.Dec.{eqb, ltb}
+use lib.Dec.{eqb}
 use Rattle.refusal.specs.Answer.{isDone}
 use Rattle.refusal.specs.Chain.{_then_, then-on, then-stop}
 use Rattle.refusal.specs.declared.Answer.{Answer}
@@ -33,7 +33,8 @@ module _ (s : List ℕ) (head k : ℕ) where
   pub rest-over : k < 65 → length s ≡ head → rest s head k ≡ Done 0
   rest-over h e = one-more h ∙ rw (eq-eqb (length s) head e)
 
-  module _ {v : Answer} {g : Bool} (h : k < 65) (more : length s ≡ head → ⊥) (found : v ≡ judgeBox s head k) (done : g ≡ isDone v) where
+  module _ {v : Answer} {g : Bool} (h : k < 65) (more : length s ≡ head → ⊥) (found : v ≡ judgeBox s head k)
+      (done : g ≡ isDone v) where
     further : rest s head k ≡ (judgeBox s head k then rest s (fieldEnd s head) (k + 1))
     further = one-more h ∙ rw (ne-eqb (length s) head more)
 
@@ -49,8 +50,8 @@ module _ (s : List ℕ) (head k : ℕ) where
       let n : 65 - k ≡ 0 = omega arith in
       rw n
 
--- a walk that has filled the first k places and stands at a head: these and the boxes from there on are the ticket's boxes, and
--- no place behind them is filled
+-- a walk that has filled the first k places and stands at a head: these and the boxes from there on are the ticket's
+-- boxes, and no place behind them is filled
 pub record Walked (s : List ℕ) (head k : ℕ) (places : List HiddenBox) : Type 0 where
   pub some : k ≤ 64
   pub near : head ≤ 30 + 65538 * k
@@ -94,7 +95,8 @@ module _ (s : List ℕ) (head k : ℕ) (places : List HiddenBox) (w : Walked s h
   walk-on {b} {next} h there found e reach =
       let room : k < length places = omega (arith, w .all) in
       let kept : drop (k + 1) (set places k b) ≡ drop (k + 1) places = drop-set-lt (k + 1) places k b (omega arith) in
-      let more : take (k + 1) (set places k b) ≡ take k places ++ (b ∷ []) = rw (add-one k) (take-suc-set places k b room) in
+      let more : take (k + 1) (set places k b) ≡ take k places ++ (b ∷ []) =
+      rw (add-one k) (take-suc-set places k b room) in
       record {
         some = omega arith;
         near = omega (arith, w .near);
@@ -106,7 +108,10 @@ module _ (s : List ℕ) (head k : ℕ) (places : List HiddenBox) (w : Walked s h
   -- at the walk's end all boxes stand in their places
   module _ (over : boxesFrom s head (64 - k) ≡ []) where
     boxes-taken : take k places ≡ boxesIn s
-    boxes-taken = sym (append-nil (take k places)) ∙ ap (λ (l : List HiddenBox). take k places ++ l) (sym over) ∙ w .filled
+    boxes-taken =
+        sym (append-nil (take k places))
+        ∙ ap (λ (l : List HiddenBox). take k places ++ l) (sym over)
+        ∙ w .filled
 
     pub walk-counted : k ≡ length (boxesIn s)
     walk-counted = sym (length-take-le k places (omega (arith, w .some, w .all))) ∙ ap length boxes-taken
@@ -114,8 +119,8 @@ module _ (s : List ℕ) (head k : ℕ) (places : List HiddenBox) (w : Walked s h
     pub walk-placed : places ≡ boxPlaces (boxesIn s)
     unfolding boxPlaces
     walk-placed =
-        sym (take-append-drop k places)
-        ∙ ap₂ (λ (l m : List HiddenBox). l ++ m) boxes-taken (w .empty ∙ ap (λ (n : ℕ). replicate (64 - n) noBox) walk-counted)
+        let behind = w .empty ∙ ap (λ (n : ℕ). replicate (64 - n) noBox) walk-counted in
+        sym (take-append-drop k places) ∙ ap₂ (λ (l m : List HiddenBox). l ++ m) boxes-taken behind
 
   -- it ends where the ticket ends, or with the 64th place
   pub over-at-end : length s ≤ head → boxesFrom s head (64 - k) ≡ []

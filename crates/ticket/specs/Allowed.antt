@@ -1,5 +1,6 @@
--- What a caller may rely on when a ticket was read, in plain facts about numbers: nobody above unfolds the judging. That it holds
--- is `good-allowed` and `read-allowed` (Laws). Document 01, 'The ticket': the limits of each field. Assumes nothing.
+-- What a caller may rely on when a ticket was read, in plain facts about numbers: nobody above unfolds the judging.
+-- That it holds is `good-allowed` and `read-allowed` (Laws). Document 01, 'The ticket': the limits of each field.
+-- Assumes nothing.
 use mathlib.Core.Path.{_≡_}
 use Prim.Native.Nat.{ℕ, _<_, _≤_, max}
 use mathlib.Core.Bool.{true, _||_}

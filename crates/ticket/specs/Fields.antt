@@ -1,8 +1,7 @@
--- Document 01, 'The ticket': "Fields of a one-byte tag, a two-byte length and the value; numbers big-endian. Tags 1 to 6 stand
--- once each in this order, then 0 to 64 fields of tag 7."
--- The first six fields have fixed lengths, so their heads have fixed places; the boxes are found by a walk from head to head,
--- each behind the field before it, whatever that field's length. A byte past the end reads as 0; no answer (Judging) depends on
--- one.
+-- Document 01, 'The ticket': "Fields of a one-byte tag, a two-byte length and the value; numbers big-endian. Tags 1
+-- to 6 stand once each in this order, then 0 to 64 fields of tag 7." The first six fields have fixed lengths, so
+-- their heads have fixed places; the boxes are found by a walk from head to head, each behind the field before it,
+-- whatever that field's length. A byte past the end reads as 0; no answer (Judging) depends on one.
 -- Assumes nothing.
 use Prim.Native.Nat.{ℕ, zero, suc, _+_, _-_, _*_}
 use mathlib.Core.Bool.{cond}

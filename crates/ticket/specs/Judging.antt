@@ -1,10 +1,10 @@
--- Document 01, 'Refusals and what they return': "Fields are judged one by one: head complete (1), tag (2), 65th box (5),
--- length (3), value complete (1), value (4, 6, 7, 8, 9)."
--- The place of every refusal of a ticket is the head of the field at fault: "The place of a head is its byte index; where bytes
--- end before a head, it is the index where the head would start." A judgement that finds nothing to refuse is done, with no work.
+-- Document 01, 'Refusals and what they return': "Fields are judged one by one: head complete (1), tag (2), 65th box
+-- (5), length (3), value complete (1), value (4, 6, 7, 8, 9)." The place of every refusal of a ticket is the head of
+-- the field at fault: "The place of a head is its byte index; where bytes end before a head, it is the index where
+-- the head would start." A judgement that finds nothing to refuse is done, with no work.
 -- Assumes nothing.
 use Prim.Native.Nat.{ℕ, zero, suc, _+_, _%_, max}
-use mathlib.Core.Bool.{Bool, true, false, not, _&&_, _||_, cond}
+use mathlib.Core.Bool.{Bool, false, not, _&&_, _||_, cond}
 use mathlib.Core.List.{List}
 use lib.ListN.{length}
 use lib.Dec.{ltb, leb, eqb}
@@ -18,12 +18,15 @@ use Rattle.ticket.specs.Fields.{headBytes, byteAt, numberAt, operationHe
 
 -- | 1 | ticket ends in a field, or before one of tags 1 to 6 |, | 2 | a tag other than the one due |
 unfoldable pub judgeHead : List ℕ → ℕ → ℕ → Answer
-judgeHead s at tag = unless (leb (at + headBytes) (length s)) TicketEnds at then unless (eqb (byteAt s at) tag) WrongTag at
+judgeHead s at tag =
+    unless (leb (at + headBytes) (length s)) TicketEnds at
+    then unless (eqb (byteAt s at) tag) WrongTag at
 
 -- | 3 | wrong field length |, | 1 | ticket ends in a field |
 unfoldable pub judgeSize : List ℕ → ℕ → ℕ → Answer
 judgeSize s at size =
-    unless (eqb (numberAt s (at + 1)) size) WrongLength at then unless (leb (at + headBytes + size) (length s)) TicketEnds at
+    unless (eqb (numberAt s (at + 1)) size) WrongLength at
+    then unless (leb (at + headBytes + size) (length s)) TicketEnds at
 
 unfoldable pub judgeField : List ℕ → ℕ → ℕ → ℕ → Answer
 judgeField s at tag size = judgeHead s at tag then judgeSize s at size
@@ -48,8 +51,8 @@ divided a b d (suc n) = (eqb (a % d) 0 && eqb (b % d) 0) || divided a b (suc d) 
 unfoldable pub coprime : ℤ → ℤ → Bool
 coprime dx dy = not (divided (natAbs dx) (natAbs dy) 2 254)
 
--- | 6 | vector not allowed |: "The vector is shallow .. or steep .., each component within -255 to 255. A connected line also
--- needs dx and dy without a common divisor above 1; 0/1 and 1/0 are allowed."
+-- | 6 | vector not allowed |: "The vector is shallow .. or steep .., each component within -255 to 255. A connected
+-- line also needs dx and dy without a common divisor above 1; 0/1 and 1/0 are allowed."
 unfoldable pub vectorAllowed : Bool → ℤ → ℤ → Bool
 vectorAllowed periodic dx dy =
     (shallow dx dy || steep dx dy) && (leb (natAbs dx) 255 && leb (natAbs dy) 255) && (periodic || coprime dx dy)
@@ -75,7 +78,8 @@ judgeLine s = judgeField s lineHead 2 1 then unless (lineKnown (lineIn s)) Unkno
 
 unfoldable pub judgeVector : List ℕ → Answer
 judgeVector s =
-    judgeField s vectorHead 3 4 then unless (vectorAllowed (isPeriodic (lineIn s)) (dxIn s) (dyIn s)) BadVector vectorHead
+    judgeField s vectorHead 3 4
+    then unless (vectorAllowed (isPeriodic (lineIn s)) (dxIn s) (dyIn s)) BadVector vectorHead
 
 unfoldable pub judgeLength : List ℕ → Answer
 judgeLength s = judgeField s lengthHead 4 2 then unless (lengthAllowed (lengthIn s)) BadLength lengthHead
@@ -85,14 +89,16 @@ judgeOrigin s = judgeField s originHead 5 2 then unless (originAllowed (lengthIn
 
 unfoldable pub judgePhase : List ℕ → Answer
 judgePhase s =
-    judgeField s phaseHead 6 2 then unless (phaseAllowed (isPeriodic (lineIn s)) (dxIn s) (dyIn s) (phaseIn s)) BadPhase phaseHead
+    judgeField s phaseHead 6 2
+    then unless (phaseAllowed (isPeriodic (lineIn s)) (dxIn s) (dyIn s) (phaseIn s)) BadPhase phaseHead
 
 -- | 5 | a 65th box |, judged behind the tag and before the length; a box's numbers are judged with the page
 unfoldable pub judgeBox : List ℕ → ℕ → ℕ → Answer
 judgeBox s head k =
     judgeHead s head 7 then unless (ltb k mostBoxes) TooManyBoxes head then judgeSize s head 8
 
--- the boxes from the k-th on, whose head is due at `head`, until the ticket ends before a head; n is how many more may be judged
+-- the boxes from the k-th on, whose head is due at `head`, until the ticket ends before a head; n is how many more
+-- may be judged
 unfoldable pub judgeBoxes : List ℕ → ℕ → ℕ → ℕ → Answer
 judgeBoxes s head k zero = Done 0
 judgeBoxes s head k (suc n) =

@@ -1,7 +1,7 @@
--- The laws of a ticket that was read, as callers cite them, with their proofs: its fields are allowed (Allowed), and what the
--- reader shows at each answer. Assumes nothing.
+-- The laws of a ticket that was read, as callers cite them, with their proofs: its fields are allowed (Allowed), and
+-- what the reader shows at each answer. Assumes nothing.
 pub use Rattle.ticket.specs.Allowed.{TwoBytes, Allowed, Bytes}
-use mathlib.Core.Path.{_≡_, refl, ap, _∙_}
+use mathlib.Core.Path.{_≡_, refl}
 use Prim.Native.Nat.{ℕ, zero, suc, _+_, _-_, _<_, _≤_, max}
 use native.Mathlib.Omega.{arith}
 use borrow.Author.Tests.{ltb-true, leb-true, eqb-true}
@@ -12,7 +12,7 @@ use lib.Seq.{take-append-seam}
 use lib.Dec.{ltb, leb}
 use lib.IntN.{ℤ, natAbs}
 use Rattle.geometry.specs.Vector.{shallow, steep}
-use Rattle.refusal.specs.Answer.{isDone, whenDone}
+use Rattle.refusal.specs.Answer.{isDone}
 use Rattle.refusal.specs.Chain.{unless, _then_, then-done, unless-done, when-done, when-refused}
 use Rattle.refusal.specs.declared.Answer.{Answer}
 use Rattle.refusal.specs.declared.Refusal.{Refusal}
@@ -22,7 +22,6 @@ use Rattle.ticket.specs.Judging.{operationKnown, lineKnown, isPeriodic, 
 use Rattle.ticket.specs.Reading.{noBox, blank, boxPlaces, shown, reading}
 use Rattle.ticket.specs.declared.HiddenBox.{HiddenBox}
 use Rattle.ticket.specs.declared.Reading.{Reading}
-use Rattle.ticket.specs.declared.Ticket.{Ticket}
 
 both : (a b : Bool) → (a && b) ≡ true → (a ≡ true) × (b ≡ true)
 both true b h = (refl, h)
@@ -34,7 +33,8 @@ between lo n hi h =
     (leb-true lo n (p .0), leb-true n hi (p .1))
 
 -- a field that is good has a value that is allowed
-value : (field : Answer) (test : Bool) (refusal : Refusal) (at : ℕ) → isDone (field then unless test refusal at) ≡ true → test ≡ true
+value : (field : Answer) (test : Bool) (refusal : Refusal) (at : ℕ)
+    → isDone (field then unless test refusal at) ≡ true → test ≡ true
 value field test refusal at h = unless-done test refusal at (then-done field (unless test refusal at) h .1)
 
 number-small : (s : List ℕ) (at : ℕ) → Bytes s → numberAt s at < 65536
@@ -69,7 +69,8 @@ one-small s head m zero boxes true bytes more = box-small s head bytes
 one-small s head m (suc j) boxes true bytes more = more j
 one-small s head m j boxes false bytes more = none-small m j
 
-boxes-small : (s : List ℕ) (head n m j : ℕ) → Bytes s → TwoBytes (getD (boxesFrom s head n ++ replicate m noBox) j noBox)
+boxes-small : (s : List ℕ) (head n m j : ℕ) → Bytes s
+    → TwoBytes (getD (boxesFrom s head n ++ replicate m noBox) j noBox)
 unfolding boxesFrom
 boxes-small s head zero m j bytes = none-small m j
 boxes-small s head (suc n) m j bytes =
@@ -152,7 +153,8 @@ periodic e = rw e
 second : (a b : Bool) → (a || b) ≡ true → a ≡ false → b ≡ true
 second a b h e = rw e at h
 
-connected-below : (p : Bool) (dx dy : ℤ) (i : ℕ) → phaseAllowed p dx dy i ≡ true → p ≡ false → i < max (natAbs dx) (natAbs dy)
+connected-below : (p : Bool) (dx dy : ℤ) (i : ℕ) → phaseAllowed p dx dy i ≡ true → p ≡ false
+    → i < max (natAbs dx) (natAbs dy)
 unfolding phaseAllowed
 connected-below p dx dy i h e = ltb-true i (max (natAbs dx) (natAbs dy)) (rw e at h)
 
@@ -205,7 +207,8 @@ unfolding reading
 reading-refused s h = when-refused (judged s) (shown s) blank h
 
 -- the same law as a caller meets it, who has called the reader and found its answer done
-pub read-allowed : (s : List ℕ) (r : Reading) → Bytes s → r ≡ reading s → isDone (r .answer) ≡ true → Allowed (r .ticket)
+pub read-allowed : (s : List ℕ) (r : Reading) → Bytes s → r ≡ reading s → isDone (r .answer) ≡ true
+    → Allowed (r .ticket)
 unfolding reading
 read-allowed s r bytes e done =
     let good : isDone (judged s) ≡ true = rw e at done in

@@ -1,5 +1,5 @@
--- Document 01, 'Refusals and what they return': "The ticket alone may be read by a caller, with refusals 1 to 9; it shows 64 box
--- places, zero past its boxes, and at a refusal all fields and boxes are zero."
+-- Document 01, 'Refusals and what they return': "The ticket alone may be read by a caller, with refusals 1 to 9; it
+-- shows 64 box places, zero past its boxes, and at a refusal all fields and boxes are zero."
 -- Assumes nothing.
 use Prim.Native.Nat.{ℕ, _-_}
 use mathlib.Core.List.{List, _++_}

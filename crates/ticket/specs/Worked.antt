@@ -1,5 +1,5 @@
--- Document 01, 'Small pages to check against', cases 10, 14 and 15, as far as the ticket alone decides them, the limits that
--- stand in 'The ticket', and boxes found from head to head.
+-- Document 01, 'Small pages to check against', cases 10, 14 and 15, as far as the ticket alone decides them, the
+-- limits that stand in 'The ticket', and boxes found from head to head.
 -- Assumes nothing.
 use mathlib.Core.Path.{_≡_, refl}
 use Prim.Native.Nat.{ℕ, zero, suc}

@@ -1,5 +1,5 @@
-// Bytes, numbers and places of a ticket. A byte past the end reads as 0, so that every field can be asked for at any time;
-// where a ticket is too short, the judging has refused it at an earlier test.
+// Bytes, numbers and places of a ticket. A byte past the end reads as 0, so that every field can be asked for at any
+// time; where a ticket is too short, the judging has refused it at an earlier test.
 ghost use mathlib.Core.Path.{_≡_};
 ghost use Prim.Native.Nat.{_+_, _<_, _≤_};
 ghost use Rattle.ticket.specs.Fields.{headBytes, vectorHead, byteAt, numberAt, signed16, operationIn, lineIn, dxIn, dyIn, lengthIn, originIn, phaseIn, fieldEnd};

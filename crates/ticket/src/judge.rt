@@ -1,5 +1,6 @@
-// The judging of a ticket, field by field in the order of document 01. Each judgement is an answer of its own, and of two the
-// first refusal counts. A byte past the end reads as 0, so each test is safe even where an earlier one has failed.
+// The judging of a ticket, field by field in the order of document 01. Each judgement is an answer of its own, and of
+// two the first refusal counts. A byte past the end reads as 0, so each test is safe even where an earlier one has
+// failed.
 use super::fields;
 use super::fields::FIRST_BOX;
 use super::fields::HEAD_BYTES;
@@ -17,12 +18,11 @@ use refusal::chain::first_refusal;
 use refusal::chain::refuse_unless;
 use refusal::report;
 ghost use mathlib.Core.Path.{_≡_};
-ghost use Prim.Native.Nat.{_<_, _≤_};
+ghost use Prim.Native.Nat.{_<_};
 ghost use Rattle.ticket.specs.Fields.{firstBox};
 ghost use Rattle.ticket.specs.Judging.{judgeHead, judgeSize, judgeField, operationKnown, lineKnown, isPeriodic, lengthAllowed, originAllowed, judgeOperation, judgeLine, judgeVector, judgeLength, judgeOrigin, judgePhase, judgeBox, judgeBoxes, judged};
 
-// The limits of document 01: the operations 1 erode to 4 close, the lines 1 connected and 2 periodic, L to
-// 8192.
+// The limits of document 01: the operations 1 erode to 4 close, the lines 1 connected and 2 periodic, L to 8192.
 const LAST_OPERATION: u8 = 4;
 
 const PERIODIC: u8 = 2;

@@ -1,7 +1,8 @@
-// The job ticket: what stands in it, and the nine refusals of its reader. `read` takes every string of bytes: no public
-// function has a `requires`.
-// The definitions stand in specs/: Fields (bytes and fields), Judging (the order of judging), Reading (the ticket as shown).
-// Laws has what a caller may rely on: the fields of a ticket that was read are in their ranges. The refusals are crate refusal's.
+// The job ticket: what stands in it, and the nine refusals of its reader. `read` takes every string of bytes: no
+// public function has a `requires`.
+// The definitions stand in specs/: Fields (bytes and fields), Judging (the order of judging), Reading (the ticket as
+// shown). Laws has what a caller may rely on: the fields of a ticket that was read are in their ranges. The refusals
+// are crate refusal's.
 
 mod fields; // fields.rt: bytes, numbers and places
 mod fill; // fill.rt: the ticket as shown, with its 64 box places
@@ -34,7 +35,8 @@ pub struct Ticket {
     pub boxes: [HiddenBox; 64],
 }
 
-// What the reader answers: that the ticket is good, or the first refusal and the head of its field; and the ticket as shown.
+// What the reader answers: that the ticket is good, or the first refusal and the head of its field; and the ticket as
+// shown.
 pub struct Reading {
     pub answer: Answer,
     pub ticket: Ticket,

@@ -1,5 +1,5 @@
-// Which vectors and phases a ticket may order. The components come as they stand in the ticket, 16 bits of two's complement:
-// a sign is one test, and a size is always known to fit.
+// Which vectors and phases a ticket may order. The components come as they stand in the ticket, 16 bits of two's
+// complement: a sign is one test, and a size is always known to fit.
 ghost use mathlib.Core.Path.{_≡_};
 ghost use Prim.Native.Nat.{_≤_, max};
 ghost use lib.IntN.{natAbs};
@@ -40,7 +40,8 @@ fn is_steep(dx: u16, dy: u16) -> bool
     }
 }
 
-// Whether one of 2 to 255 divides both. Euclid's way: x and y have the same common divisors as y and the rest of x by y.
+// Whether one of 2 to 255 divides both. Euclid's way: x and y have the same common divisors as y and the rest of x by
+// y.
 fn share_divisor(a: u16, b: u16) -> bool
     requires { ⌜ (a ≤ 255) × (b ≤ 255) ⌝ }
     ensures { λ r. ⌜ r ≡ divided a b 2 254 ⌝ }

@@ -1,5 +1,5 @@
-// Reads a list of tickets from standard input, at most 65,536 bytes, each after its length in two bytes, big-endian, and
-// prints a line for each: `ticket OP LINE DX DY L O PHASE COUNT` and its boxes as `left,top,width,height`, or
+// Reads a list of tickets from standard input, at most 65,536 bytes, each after its length in two bytes, big-endian,
+// and prints a line for each: `ticket OP LINE DX DY L O PHASE COUNT` and its boxes as `left,top,width,height`, or
 // `refused N at P`. Where the list ends inside an entry the last line is `cut`.
 //
 // The list in `stdin` is made by hand, 318 tickets in this order:
@@ -10,9 +10,9 @@
 // - wrong tags and wrong lengths at each of its heads, and pairs of faults, of which the first counts;
 // - boxes at their limits, 63 and 64 of them;
 // - the last places: the 65th box, with a right and a wrong length and cut short, and the 64th.
-// It ends inside an entry. Each refusal stands at its first and at its last possible place: 1 and 2 at 0 and 734, 3 at 0 and
-// 723, 4 at 0 and 4, 5 at 734, 6 at 8, 7 at 15, 8 at 20, 9 at 25. `stdout` comes from a second reader, written from the
-// document alone.
+// It ends inside an entry. Each refusal stands at its first and at its last possible place: 1 and 2 at 0 and 734, 3
+// at 0 and 723, 4 at 0 and 4, 5 at 734, 6 at 8, 7 at 15, 8 at 20, 9 at 25. `stdout` comes from a second reader,
+// written from the document alone.
 mod text;
 
 use libc::STDIN_FILENO;

@@ -10,15 +10,15 @@ returns : tie.Need-returns
 returns c =
     let g = c .before .before in
     let j = g .before in
-    reads-good (now (j .before .before .args .ticket)) (j .judge .ensures) (sym (g .is-done .ensures) ∙ c .before .if1 .taken)
-    (c .show .ensures)
+    let done = sym (g .is-done .ensures) ∙ c .before .if1 .taken in
+    reads-good (now (j .before .before .args .ticket)) (j .judge .ensures) done (c .show .ensures)
 
 returns-2 : tie.Need-returns-2
 returns-2 c =
     let g = c .before .before in
     let j = g .before in
-    reads-refused (now (j .before .before .args .ticket)) (j .judge .ensures) (sym (g .is-done .ensures) ∙ c .before .if1 .left)
-    (c .blank-ticket .ensures)
+    let refused = sym (g .is-done .ensures) ∙ c .before .if1 .left in
+    reads-refused (now (j .before .before .args .ticket)) (j .judge .ensures) refused (c .blank-ticket .ensures)
 
 pub read-spec : {M : Type 1} → statement M
 read-spec =

@@ -1,7 +1,7 @@
--- `ticket::fill::find_boxes` meets its contract: the places filled and the boxes from the next head on are the ticket's boxes.
+-- `ticket::fill::find_boxes` meets its contract: the places filled and the boxes from the next head on are the
+-- ticket's boxes.
 -- Assumes nothing.
 use borrow.Author.Needs.{needs}
-use mathlib.Core.Path.{_≡_}
 use Prim.Native.Nat.{_-_}
 use native.Mathlib.Omega.{arith}
 use denote.Ref.{now}
@@ -32,8 +32,9 @@ loop-again c =
     let b = c .before in
     let l = b .before .before .before .loop in
     let s = now (b .before .before .before .before .before .before .args .s) in
-    walk-on s (l .head) (l .count) (l .places) (l .inv) (omega arith) (omega arith) (b .box-at .ensures) (c .field-end .ensures .0)
-    (c .field-end .ensures .1)
+    let next = c .field-end .ensures in
+    walk-on s (l .head) (l .count) (l .places) (l .inv) (omega arith) (omega arith) (b .box-at .ensures) (next .0)
+    (next .1)
 
 returns-2 : tie.Need-returns-2 Inv-loop μ-loop
 returns-2 c =

@@ -12,8 +12,8 @@ returns c =
     let m = z .before in
     let h = m .before in
     let a = h .before .before .args in
-    box-judged (now (a .s)) (a .head) (a .k) (h .judge-head .ensures) (m .refuse-unless .ensures) (z .judge-size .ensures)
-    (f .first-refusal .ensures) (c .first-refusal2 .ensures)
+    box-judged (now (a .s)) (a .head) (a .k) (h .judge-head .ensures) (m .refuse-unless .ensures)
+    (z .judge-size .ensures) (f .first-refusal .ensures) (c .first-refusal2 .ensures)
 
 pub judge-box-spec : {M : Type 1} → statement M
 judge-box-spec =

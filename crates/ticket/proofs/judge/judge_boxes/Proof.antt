@@ -19,7 +19,8 @@ abbrev μ-loop : tie.MeasureT-loop
 returns : tie.Need-returns Inv-loop μ-loop
 returns c =
     let l = c .before .before .loop in
-    sym (rest-over (now (c .before .before .before .before .args .s)) (l .head) (l .k) (omega arith) (c .if1 .taken)) ∙ l .inv .2
+    let s = now (c .before .before .before .before .args .s) in
+    sym (rest-over s (l .head) (l .k) (omega arith) (c .if1 .taken)) ∙ l .inv .2
 
 loop-again : tie.Need-loop-again Inv-loop μ-loop
 loop-again c =
@@ -37,10 +38,9 @@ returns-2 c =
     let v = c .before .before in
     let l = v .before .before .before .loop in
     let s = now (v .before .before .before .before .before .args .s) in
-    let stop =
-    rest-stop s (l .head) (l .k) (omega arith) (v .before .if1 .left) (v .judge-box .ensures) (c .before .is-done .ensures)
-    (c .if2 .left) in
-    sym stop ∙ l .inv .2
+    let found = v .judge-box .ensures in
+    let done = c .before .is-done .ensures in
+    sym (rest-stop s (l .head) (l .k) (omega arith) (v .before .if1 .left) found done (c .if2 .left)) ∙ l .inv .2
 
 returns-3 : tie.Need-returns-3 Inv-loop μ-loop
 returns-3 c =

@@ -13,7 +13,8 @@ unfolding judgeLength
 returns c =
     let w = c .before in
     let t = w .before .before in
-    field-judged BadLength lengthHead (c .first-refusal .ensures) (w .before .judge-field .ensures) (w .refuse-unless .ensures)
+    let field = w .before .judge-field .ensures in
+    field-judged BadLength lengthHead (c .first-refusal .ensures) field (w .refuse-unless .ensures)
     (t .length-allowed .ensures ∙ ap lengthAllowed (t .before .length-in .ensures))
 
 pub judge-length-spec : {M : Type 1} → statement M

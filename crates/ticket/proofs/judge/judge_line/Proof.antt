@@ -13,7 +13,8 @@ unfolding judgeLine
 returns c =
     let w = c .before in
     let t = w .before .before in
-    field-judged Unknown lineHead (c .first-refusal .ensures) (w .before .judge-field .ensures) (w .refuse-unless .ensures)
+    let field = w .before .judge-field .ensures in
+    field-judged Unknown lineHead (c .first-refusal .ensures) field (w .refuse-unless .ensures)
     (t .line-known .ensures ∙ ap lineKnown (t .before .line-in .ensures))
 
 pub judge-line-spec : {M : Type 1} → statement M

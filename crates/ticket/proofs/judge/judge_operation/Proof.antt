@@ -13,7 +13,8 @@ unfolding judgeOperation
 returns c =
     let w = c .before in
     let t = w .before .before in
-    field-judged Unknown operationHead (c .first-refusal .ensures) (w .before .judge-field .ensures) (w .refuse-unless .ensures)
+    let field = w .before .judge-field .ensures in
+    field-judged Unknown operationHead (c .first-refusal .ensures) field (w .refuse-unless .ensures)
     (t .operation-known .ensures ∙ ap operationKnown (t .before .operation-in .ensures))
 
 pub judge-operation-spec : {M : Type 1} → statement M

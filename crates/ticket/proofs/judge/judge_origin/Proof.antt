@@ -13,8 +13,10 @@ unfolding judgeOrigin
 returns c =
     let w = c .before in
     let t = w .before .before in
-    field-judged BadOrigin originHead (c .first-refusal .ensures) (w .before .judge-field .ensures) (w .refuse-unless .ensures)
-    (t .origin-allowed .ensures ∙ ap₂ originAllowed (t .before .before .length-in .ensures) (t .before .origin-in .ensures))
+    let field = w .before .judge-field .ensures in
+    field-judged BadOrigin originHead (c .first-refusal .ensures) field (w .refuse-unless .ensures)
+    (t .origin-allowed .ensures
+    ∙ ap₂ originAllowed (t .before .before .length-in .ensures) (t .before .origin-in .ensures))
 
 pub judge-origin-spec : {M : Type 1} → statement M
 judge-origin-spec =
