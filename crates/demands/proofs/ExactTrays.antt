@@ -2,7 +2,7 @@
 -- Assumes nothing.
 use mathlib.Core.Path.{_≡_, refl, sym, ap, ap₂, _∙_}
 use mathlib.Core.Bool.{Bool, true, false, not, _&&_, cond}
-use mathlib.Core.Logic.{by-cases, _⊎_, inl, inr, _≢_}
+use mathlib.Core.Logic.{by-cases, inl, inr, _≢_}
 use mathlib.Core.Option.{Option, none, some}
 use mathlib.Core.List.{List}
 use Prim.Native.Nat.{ℕ, suc, _+_, _-_, _*_, _≤_, _<_}
@@ -12,9 +12,8 @@ use borrow.Author.Tests.{lt-ltb}
 use lib.Dec.{eqb}
 use lib.ListN.{length, getD, set, replicate, length-set, length-replicate, getD-replicate, List·getD-eq-default}
 use lib.Seq.{getD-set-same, getD-set-other}
-use Rattle.geometry.specs.Line.{landing, stepOf, majorAt}
-use Rattle.geometry.specs.Drift.{Sound}
-use Rattle.geometry.specs.Laws.{inside, lands, step-of-major}
+use Rattle.geometry.specs.Line.{majorAt}
+use Rattle.geometry.specs.Laws.{lands}
 use Rattle.geometry.specs.declared.Line.{Line}
 use Rattle.ticket.specs.Laws.{Allowed}
 use Rattle.ticket.specs.declared.Ticket.{Ticket}
@@ -28,9 +27,13 @@ use Rattle.tray.specs.Laws.{byte-is, row-room, across-in, cell-same, length-wri
 use Rattle.tray.specs.declared.Placement.{Placement}
 use Rattle.filter.specs.Seen.{boxesOf, hidden, lineOf, seen, turned, runsSteep}
 use Rattle.filter.specs.Filters.{View, valueAt, onLine, pass, orWhite, eroded, dilated, dilationBack, opened, closed, filtered, finished}
-use Rattle.demands.specs.Exact.{majorPlace, minorPlace, stepAt, IsStep, Near, Clear}
-use Rattle.demands.specs.ExactNumbers.{winner, winner-small, picked-small, twice, run, run-small, changed, changed-at, changed-else}
-use Rattle.demands.specs.ExactLines.{twice-on}
+use Rattle.demands.specs.Near.{majorPlace, minorPlace, stepAt, FewerSteps, Near}
+use Rattle.demands.specs.Exact.{OpensOrCloses, Clear, ClearSteps}
+use Rattle.demands.proofs.Axes.{turned-is, turned-back, down-back, across-back}
+use Rattle.demands.proofs.OnLines.{line-sound}
+use Rattle.demands.proofs.Near.{near-in, near-step}
+use Rattle.demands.proofs.ExactNumbers.{winner, winner-small, picked-small, twice, run, run-small, changed, changed-at, changed-else}
+use Rattle.demands.proofs.ExactLines.{twice-on}
 
 -- ---- opening and closing are two passes, the second with the other extreme and the window turned round
 
@@ -42,7 +45,7 @@ pub record Passes (t : Ticket) : Type 0 where
   pub made :
       (page : View) → filtered t page ≡ pass (not low) (lineOf t) b (t .length) (pass low (lineOf t) a (t .length) page)
 
-pub passes : (t : Ticket) → Allowed t → (t .operation ≡ 3) ⊎ (t .operation ≡ 4) → Passes t
+pub passes : (t : Ticket) → Allowed t → OpensOrCloses t → Passes t
 unfolding filtered opened closed eroded dilated dilationBack
 passes t ok (inl e) =
     record {
@@ -65,31 +68,7 @@ passes t ok (inr e) =
           ap (λ (o : ℕ). cond (eqb o 1) (eroded t page) (cond (eqb o 2) (dilated t page) (cond (eqb o 3) (opened t page) (closed t page)))) e;
     }
 
--- ---- pages by their axes
-
-turned-at : (steep : Bool) (page : View) (c r : ℕ) → turned steep page c r ≡ page (downOf steep c r) (acrossOf steep c r)
-unfolding turned downOf acrossOf
-turned-at true page c r = refl
-turned-at false page c r = refl
-
-turned-back : (steep : Bool) (page : View) (c r : ℕ) → turned steep page (downOf steep c r) (acrossOf steep c r) ≡ page c r
-unfolding turned downOf acrossOf
-turned-back true page c r = refl
-turned-back false page c r = refl
-
--- a place M on the major axis and m on the minor one, as a column and a row
-record Placing (steep : Bool) (w h M m : ℕ) : Type 0 where
-  column : ℕ
-  row : ℕ
-  down : downOf steep column row ≡ M
-  across : acrossOf steep column row ≡ m
-  column-in : column < w
-  row-in : row < h
-
-placing : (steep : Bool) (w h M m : ℕ) → M < downOf steep w h → m < acrossOf steep w h → Placing steep w h M m
-unfolding downOf acrossOf
-placing true w h M m M-in m-in = record { column = m; row = M; down = refl; across = refl; column-in = m-in; row-in = M-in }
-placing false w h M m M-in m-in = record { column = M; row = m; down = refl; across = refl; column-in = M-in; row-in = m-in }
+-- ---- the line through a clear pixel
 
 seen-there :
     (boxes : List HiddenBox) (p : Placement) (tray : List ℕ) (c r : ℕ) → c < p .width → r < p .height → hidden boxes c r ≡ false
@@ -99,74 +78,67 @@ seen-there boxes p tray c r c-in r-in shown =
     ap₂ (λ (one two : Bool). cond ((one && two) && not (hidden boxes c r)) (some (pixelIn tray p c r)) none) (lt-ltb _ _ c-in) (lt-ltb _ _ r-in)
     ∙ ap (λ (test : Bool). cond (not test) (some (pixelIn tray p c r)) none) shown
 
--- a pixel of the page that no box hides and that is step s of the line
-pub record Pixel (t : Ticket) (p : Placement) (c r s : ℕ) : Type 0 where
-  pub column : ℕ
-  pub row : ℕ
-  pub is-step : IsStep (lineOf t) c r s column row
-  pub column-in : column < p .width
-  pub row-in : row < p .height
-  pub shown : hidden (boxesOf t) column row ≡ false
+-- the steps up to L - 1 on both sides of a clear pixel are near pixels
+pub clear-steps : ClearSteps
+clear-steps t p c r ok clear s few =
+    let l : Line = lineOf t in
+    let steep : Bool = runsSteep l in
+    let M : ℕ = majorPlace l c r in
+    let H : ℕ = majorPlace l (p .width) (p .height) in
+    let W : ℕ = minorPlace l (p .width) (p .height) in
+    let m-in : minorPlace l c r < W = across-in steep c r (p .width) (p .height) (clear .column) (clear .row) in
+    let on = clear .on-page s few in
+    let found = lands l (line-sound t ok) H W M (minorPlace l c r) s m-in on in
+    let M-is = down-back steep (majorAt l M s) (found .at) in
+    let m-is = across-back steep (majorAt l M s) (found .at) in
+    record {
+      column = downOf steep (majorAt l M s) (found .at);
+      row = acrossOf steep (majorAt l M s) (found .at);
+      near = record {
+        step = s;
+        fewer = record { back = omega (arith, few .back); on = omega (arith, few .on) };
+        on-page = on;
+        is-step = record { along = sym M-is; across = found .lands ∙ ap {B = Option ℕ} some (sym m-is) };
+      };
+      at = refl;
+    }
 
-is-step-there :
-    (l : Line) (w h c r s m : ℕ) (x : Placing (runsSteep l) w h (majorAt l (majorPlace l c r) s) m)
-    → landing l (minorPlace l c r) (stepAt l c r) s ≡ some m → IsStep l c r s (x .column) (x .row)
-is-step-there l w h c r s m x there = record { along = x .down; across = there ∙ ap {B = Option ℕ} some (sym (x .across)) }
+-- what the filter sees of a tray along the line through column c, row r
+unfoldable pub valueOn : Ticket → Placement → List ℕ → ℕ → ℕ → ℕ → Option ℕ
+valueOn t p tray c r s =
+    onLine (lineOf t) (turned (runsSteep (lineOf t)) (seen (boxesOf t) p tray)) (majorPlace (lineOf t) c r)
+    (minorPlace (lineOf t) c r)
+    s
 
-module _ (t : Ticket) (p : Placement) (c r : ℕ) (sound : Sound (lineOf t)) (clear : Clear t p c r) where
-  -- every near step has one
-  pub pixel-of : (s : ℕ) → Near t c r s → Pixel t p c r s
-  pixel-of s near =
-      let l : Line = lineOf t in
-      let H : ℕ = majorPlace l (p .width) (p .height) in
-      let W : ℕ = minorPlace l (p .width) (p .height) in
-      let m-in : minorPlace l c r < W = across-in (runsSteep l) c r (p .width) (p .height) (clear .column) (clear .row) in
-      let on = clear .on-page s near in
-      let found = lands l sound H W (majorPlace l c r) (minorPlace l c r) s m-in on in
-      let long = inside l sound H W (majorPlace l c r) (minorPlace l c r) s m-in on .long in
-      let x = placing (runsSteep l) (p .width) (p .height) (majorAt l (majorPlace l c r) s) (found .at) long (found .fits) in
-      let step = is-step-there l (p .width) (p .height) c r s (found .at) x (found .lands) in
-      record {
-        column = x .column;
-        row = x .row;
-        is-step = step;
-        column-in = x .column-in;
-        row-in = x .row-in;
-        shown = clear .in-no-box s (x .column) (x .row) near step;
-      }
-
-  -- what the filter sees at a step
-  pub on-step :
-      (tray : List ℕ) (s : ℕ) (x : Pixel t p c r s)
-      → onLine (lineOf t) (turned (runsSteep (lineOf t)) (seen (boxesOf t) p tray)) (majorPlace (lineOf t) c r) (minorPlace (lineOf t) c r) s
-      ≡ some (pixelIn tray p (x .column) (x .row))
-  unfolding onLine valueAt
-  on-step tray s x =
+module _ (t : Ticket) (p : Placement) (c r : ℕ) (ok : Allowed t) (clear : Clear t p c r) where
+  -- at a near pixel
+  on-near : (tray : List ℕ) (c′ r′ : ℕ) (x : Near t p c r c′ r′) → valueOn t p tray c r (x .step) ≡ some (pixelIn tray p c′ r′)
+  unfolding valueOn onLine valueAt
+  on-near tray c′ r′ x =
       let steep : Bool = runsSteep (lineOf t) in
       let page : View = seen (boxesOf t) p tray in
-      ap₂ (valueAt (turned steep page)) (sym (x .is-step .along)) (x .is-step .across)
-      ∙ turned-back steep page (x .column) (x .row)
-      ∙ seen-there (boxesOf t) p tray (x .column) (x .row) (x .column-in) (x .row-in) (x .shown)
+      let there = near-in t p c r c′ r′ x in
+      ap₂ (valueAt (turned steep page)) (x .is-step .along) (x .is-step .across)
+      ∙ turned-back steep page c′ r′
+      ∙ seen-there (boxesOf t) p tray c′ r′ (there .0) (there .1) (clear .in-no-box c′ r′ x)
 
   -- the result, by the numbers of the line
   pub result :
       (tray : List ℕ) (w : Passes t) (f : ℕ → ℕ)
-      → ((s : ℕ) → Near t c r s
-      → onLine (lineOf t) (turned (runsSteep (lineOf t)) (seen (boxesOf t) p tray)) (majorPlace (lineOf t) c r) (minorPlace (lineOf t) c r) s
-      ≡ some (f s))
+      → ((s : ℕ) → FewerSteps (t .length) (stepAt (lineOf t) c r) s → valueOn t p tray c r s ≡ some (f s))
       → finished t p tray c r ≡ twice (w .low) (w .a) (w .b) f (stepAt (lineOf t) c r)
-  unfolding finished orWhite
+  unfolding finished orWhite valueOn
   result tray w f on =
       let l : Line = lineOf t in
       let M : ℕ = majorPlace l c r in
       let m : ℕ = minorPlace l c r in
       let page : View = turned (runsSteep l) (seen (boxesOf t) p tray) in
       ap orWhite
-      (turned-at (runsSteep l) (filtered t page) c r
+      (turned-is (runsSteep l) (filtered t page) c r
       ∙ ap (λ (view : View). view M m) (w .made page)
       ∙ ap (λ (n : ℕ). pass (not (w .low)) l (w .b) n (pass (w .low) l (w .a) n page) M m) (w .sizes)
-      ∙ twice-on l sound M m (w .low) (w .a) (w .b) page f (omega (arith, clear .steps-before, w .sizes))
-      (λ s h k. on s (record { before = omega (arith, w .sizes); behind = omega (arith, w .sizes) })))
+      ∙ twice-on l (line-sound t ok) M m (w .low) (w .a) (w .b) page f (omega (arith, clear .steps-before, w .sizes))
+      (λ s h k. on s (record { back = omega (arith, w .sizes); on = omega (arith, w .sizes) })))
 
 -- ---- the two trays
 
@@ -263,47 +235,53 @@ module _ (l : Line) (p : Placement) (size : ℕ) (placed : Placed p size) (low :
 
 -- ---- the line through column c, row r in these trays
 
-module _ (t : Ticket) (p : Placement) (c r : ℕ) (sound : Sound (lineOf t)) (clear : Clear t p c r) (size : ℕ) (placed : Placed p size) (low : Bool) (q n : ℕ) where
-  -- a pixel's step is the step that it is
-  step-of : (s : ℕ) (x : Pixel t p c r s) → stepAt (lineOf t) (x .column) (x .row) ≡ s
-  step-of s x = ap (stepOf (lineOf t)) (x .is-step .along) ∙ step-of-major (lineOf t) sound (majorPlace (lineOf t) c r) s
+module _ (t : Ticket) (p : Placement) (c r : ℕ) (ok : Allowed t) (clear : Clear t p c r) (size : ℕ) (placed : Placed p size)
+    (low : Bool) (q n : ℕ) where
+  abbrev before : List ℕ
+  before = runTray (lineOf t) p size low q n
 
-  run-value : (s : ℕ) (x : Pixel t p c r s) → pixelIn (runTray (lineOf t) p size low q n) p (x .column) (x .row) ≡ run low q n s
-  run-value s x = run-pixel (lineOf t) p size placed low q n (x .column) (x .row) (x .column-in) (x .row-in) ∙ ap (run low q n) (step-of s x)
+  run-value : (c′ r′ : ℕ) (x : Near t p c r c′ r′) → pixelIn before p c′ r′ ≡ run low q n (x .step)
+  run-value c′ r′ x =
+      let there = near-in t p c r c′ r′ x in
+      run-pixel (lineOf t) p size placed low q n c′ r′ (there .0) (there .1) ∙ ap (run low q n) (near-step t p c r c′ r′ ok x)
 
-  pub run-on :
-      (s : ℕ) → Near t c r s
-      → onLine (lineOf t) (turned (runsSteep (lineOf t)) (seen (boxesOf t) p (runTray (lineOf t) p size low q n)))
-      (majorPlace (lineOf t) c r)
-      (minorPlace (lineOf t) c r)
-      s
-      ≡ some (run low q n s)
-  run-on s near =
-      let x = pixel-of t p c r sound clear s near in
-      on-step t p c r sound clear (runTray (lineOf t) p size low q n) s x ∙ ap {B = Option ℕ} some (run-value s x)
+  pub run-on : (s : ℕ) → FewerSteps (t .length) (stepAt (lineOf t) c r) s → valueOn t p before c r s ≡ some (run low q n s)
+  run-on s few =
+      let x = clear-steps t p c r ok clear s few in
+      ap (valueOn t p before c r) (sym (x .at))
+      ∙ on-near t p c r ok clear before (x .column) (x .row) (x .near)
+      ∙ ap {B = Option ℕ} some (run-value (x .column) (x .row) (x .near) ∙ ap (run low q n) (x .at))
 
-  module _ (s : ℕ) (x : Pixel t p c r s) where
+  -- one near pixel changed
+  module _ (c₁ r₁ : ℕ) (x : Near t p c r c₁ r₁) where
     abbrev after : List ℕ
-    after = changedTray (lineOf t) p size low q n (x .column) (x .row)
+    after = changedTray (lineOf t) p size low q n c₁ r₁
 
-    changed-value : (k : ℕ) (y : Pixel t p c r k) → k ≢ s → pixelIn after p (y .column) (y .row) ≡ changed low q n s k
-    changed-value k y other =
-        kept-pixel (lineOf t) p size placed low q n (x .column) (x .row) (x .column-in) (x .row-in) (y .column) (y .row) (y .column-in)
-        (λ e e′. other (sym (step-of k y) ∙ ap₂ (stepAt (lineOf t)) e e′ ∙ step-of s x))
-        ∙ run-value k y
-        ∙ sym (changed-else low q n s k other)
+    changed-value :
+        (c′ r′ : ℕ) (y : Near t p c r c′ r′) → y .step ≢ x .step → pixelIn after p c′ r′ ≡ changed low q n (x .step) (y .step)
+    changed-value c′ r′ y other =
+        let here = near-in t p c r c₁ r₁ x in
+        let there = near-in t p c r c′ r′ y in
+        kept-pixel (lineOf t) p size placed low q n c₁ r₁ (here .0) (here .1) c′ r′ (there .0)
+        (λ e e′. other (sym (near-step t p c r c′ r′ ok y) ∙ ap₂ (stepAt (lineOf t)) e e′ ∙ near-step t p c r c₁ r₁ ok x))
+        ∙ run-value c′ r′ y
+        ∙ sym (changed-else low q n (x .step) (y .step) other)
+
+    there-on : valueOn t p after c r (x .step) ≡ some (changed low q n (x .step) (x .step))
+    there-on =
+        let here = near-in t p c r c₁ r₁ x in
+        on-near t p c r ok clear after c₁ r₁ x
+        ∙ ap {B = Option ℕ} some
+        (changed-pixel (lineOf t) p size placed low q n c₁ r₁ (here .0) (here .1) ∙ sym (changed-at low q n (x .step)))
 
     pub changed-on :
-        (k : ℕ) → Near t c r k
-        → onLine (lineOf t) (turned (runsSteep (lineOf t)) (seen (boxesOf t) p after)) (majorPlace (lineOf t) c r) (minorPlace (lineOf t) c r) k
-        ≡ some (changed low q n s k)
-    changed-on k near =
-        by-cases (ℕ-discrete k s)
-        (λ e.
-        rw e
-        (on-step t p c r sound clear after s x
-        ∙ ap {B = Option ℕ} some
-        (changed-pixel (lineOf t) p size placed low q n (x .column) (x .row) (x .column-in) (x .row-in) ∙ sym (changed-at low q n s))))
+        (k : ℕ) → FewerSteps (t .length) (stepAt (lineOf t) c r) k
+        → valueOn t p after c r k ≡ some (changed low q n (x .step) k)
+    changed-on k few =
+        by-cases (ℕ-discrete k (x .step)) (λ e. rw e there-on)
         (λ other.
-        let y = pixel-of t p c r sound clear k near in
-        on-step t p c r sound clear after k y ∙ ap {B = Option ℕ} some (changed-value k y other))
+        let y = clear-steps t p c r ok clear k few in
+        ap (valueOn t p after c r) (sym (y .at))
+        ∙ on-near t p c r ok clear after (y .column) (y .row) (y .near)
+        ∙ ap {B = Option ℕ} some
+        (changed-value (y .column) (y .row) (y .near) (λ e. other (sym (y .at) ∙ e)) ∙ ap (changed low q n (x .step)) (y .at)))

@@ -27,8 +27,9 @@ use Rattle.filter.specs.Work.{charged, chargedAt, passWork, workOf}
 use Rattle.filter.specs.Job.{Lengths, sourcePage, outputPage, boxAllowed, unless, judgeBoxes, placed, answerUnder, answer}
 use Rattle.answer.specs.declared.Answer.the-variants.{Done}
 use Rattle.filter.specs.declared.Placements.{Placements}
+use Rattle.demands.specs.Near.{Near}
 use Rattle.demands.specs.Exact.{Clear, JobMatters}
-use Rattle.demands.specs.ExactJob.{exact-job-reach}
+use Rattle.demands.proofs.ExactJob.{exact-job-reach}
 
 -- "ticket 01 00 01 03, 02 00 01 01, 03 00 04 00 01 00 00, 04 00 02 00 02, 05 00 02 00 00, 06 00 02 00 00"
 abbrev pub opening : List ℕ
@@ -68,8 +69,8 @@ middle-clear =
       column = omega arith;
       row = omega arith;
       steps-before = omega arith;
-      on-page = λ s near. there s (near .behind);
-      in-no-box = λ s c r near is. refl;
+      on-page = λ s few. there s (few .on);
+      in-no-box = λ c r near. refl;
     }
   where
     there : (s : ℕ) → s < 3 → inPage (lineOf (shown opening)) 3 1 1 0 s ≡ true
@@ -78,8 +79,32 @@ middle-clear =
     there (suc (suc zero)) h = refl
     there (suc (suc (suc s))) h = absurd (omega arith)
 
--- each of the three pixels matters to it
-pub middle-matters : (s : ℕ) → s < 3 → JobMatters opening row sizes 1 0 s
-unfolding runsSteep lineOf steep majorOf period stepOf downOf byteAt numberAt signed16 signedAt operationIn lineIn dxIn dyIn lengthIn isPeriodic shown
-middle-matters s h =
-    exact-job-reach opening row sizes 6 1 0 opening-bytes opening-done (inl refl) middle-clear s (record { before = omega arith; behind = h })
+-- each of the three pixels is near it, and matters to it
+middle-near : (c : ℕ) → c < 3 → Near (shown opening) (sourcePage row) 1 0 c 0
+unfolding sourcePage runsSteep lineOf boxesOf hidden steep majorOf minorOf floorDiv D shift period profile place landing stepOf majorAt within inPage downOf acrossOf byteAt numberAt signed16 signedAt operationIn lineIn dxIn dyIn lengthIn originIn phaseIn boxHead boxIn boxesIn isPeriodic shown boxPlace boxPlaces
+middle-near zero h =
+    record {
+      step = 0;
+      fewer = record { back = omega arith; on = omega arith };
+      on-page = refl;
+      is-step = record { along = refl; across = refl };
+    }
+middle-near (suc zero) h =
+    record {
+      step = 1;
+      fewer = record { back = omega arith; on = omega arith };
+      on-page = refl;
+      is-step = record { along = refl; across = refl };
+    }
+middle-near (suc (suc zero)) h =
+    record {
+      step = 2;
+      fewer = record { back = omega arith; on = omega arith };
+      on-page = refl;
+      is-step = record { along = refl; across = refl };
+    }
+middle-near (suc (suc (suc c))) h = absurd (omega arith)
+
+pub middle-matters : (c : ℕ) → c < 3 → JobMatters opening row sizes 1 0 c 0
+unfolding byteAt numberAt operationIn shown
+middle-matters c h = exact-job-reach opening row sizes 6 1 0 opening-bytes opening-done (inl refl) middle-clear c 0 (middle-near c h)

@@ -1,19 +1,20 @@
 -- What a finished job has: nothing refused it. And what each answer makes of the trays.
 -- Assumes nothing.
-use mathlib.Core.Path.{_≡_, refl, ap, _∙_}
+use mathlib.Core.Path.{_≡_, refl, sym, ap, _∙_}
 use mathlib.Core.Bool.{Bool, true, false, _&&_, and-eq-true-iff}
-use mathlib.Core.List.{List}
-use Prim.Native.Nat.{ℕ, _+_, _≤_, _<_}
+use mathlib.Core.List.{List, [], _∷_}
+use Prim.Native.Nat.{ℕ, suc, _+_, _≤_, _<_}
 use native.Mathlib.Omega.{arith}
 use lib.ListN.{length, getD}
 use lib.Dec.{leb}
 use borrow.Author.Tests.{leb-true}
 use Rattle.ticket.specs.Judging.{judged}
 use Rattle.ticket.specs.Reading.{shown}
+use Rattle.ticket.specs.declared.HiddenBox.{HiddenBox}
 use Rattle.ticket.specs.declared.Ticket.{Ticket}
 use Rattle.ticket.specs.declared.Verdict.{Verdict}
 use Rattle.ticket.specs.declared.Verdict.the-variants.{Good, Refused}
-use Rattle.tray.specs.Placement.{byteOf, allowed, fits, scratchNeeded}
+use Rattle.tray.specs.Placement.{byteOf, pixelIn, allowed, fits, scratchNeeded}
 use Rattle.tray.specs.Written.{written}
 use Rattle.tray.specs.Promises.{Placed}
 use Rattle.tray.specs.Laws as Laws
@@ -21,7 +22,7 @@ use Rattle.filter.specs.Seen.{boxesOf}
 use Rattle.answer.specs.Answer.{numberOf, workIn}
 use Rattle.filter.specs.Filters.{finished}
 use Rattle.filter.specs.Work.{workOf}
-use Rattle.filter.specs.Job.{Lengths, sourcePage, outputPage, unless, judgeBoxes, placed, answerUnder, answer, whenDone, lengths, outputAfter}
+use Rattle.filter.specs.Job.{Lengths, sourcePage, outputPage, boxAllowed, unless, judgeBoxes, placed, answerUnder, answer, whenDone, lengths, outputAfter}
 use Rattle.answer.specs.declared.Answer.{Answer}
 use Rattle.answer.specs.declared.Answer.the-variants.{Done, BadTicket, BadSides, SourceTooShort, OutputTooShort, ScratchTooShort, BadBox}
 use Rattle.filter.specs.declared.Placements.{Placements}
@@ -38,7 +39,22 @@ unfolding unless
 unless-done true refusal next work never e = (refl, e)
 unless-done false refusal next work never e = absurd (never e)
 
-placed-done : (t : Ticket) (p : Placements) (n : Lengths) (next : Answer) (work : ℕ) → placed t p n next ≡ Done work → Lies p n
+-- boxes that refuse nothing leave what is next
+boxes-done :
+    (w h : ℕ) (boxes : List HiddenBox) (k : ℕ) (next : Answer) (work : ℕ) → judgeBoxes w h boxes k next ≡ Done work
+    → next ≡ Done work
+unfolding judgeBoxes
+boxes-done w h [] k next work e = e
+boxes-done w h (b ∷ boxes) k next work e =
+    let rest : Answer = judgeBoxes w h boxes (suc k) next in
+    boxes-done w h boxes (suc k) next work (unless-done (boxAllowed w h b) (BadBox k) rest work (λ h. never h) e .1)
+  where
+    never : BadBox k ≡ Done work → ⊥
+    never h = let z : _≡_ {A = ℕ} 0 1 = cc in omega arith
+
+placed-done :
+    (t : Ticket) (p : Placements) (n : Lengths) (next : Answer) (work : ℕ) → placed t p n next ≡ Done work
+    → Lies p n × (next ≡ Done work)
 unfolding placed
 placed-done t p n next work e =
     let boxes : Answer = judgeBoxes (p .width) (p .height) (boxesOf t) 0 next in
@@ -49,12 +65,14 @@ placed-done t p n next work e =
     let source = unless-done (fits (sourcePage p) (n .source)) SourceTooShort third work (λ h. never-source h) (sides .1) in
     let output = unless-done (fits (outputPage p) (n .output)) OutputTooShort fourth work (λ h. never-output h) (source .1) in
     let scratch = unless-done (leb (scratchNeeded (p .width) (p .height)) (n .scratch)) ScratchTooShort boxes work (λ h. never-scratch h) (output .1) in
-    let both = and-eq-true-iff (allowed (sourcePage p)) (allowed (outputPage p)) .0 (sides .0) in
-    record {
-      from = Laws.placed (sourcePage p) (n .source) (both .0) (source .0);
-      to = Laws.placed (outputPage p) (n .output) (both .1) (output .0);
-      room = leb-true _ _ (scratch .0);
-    }
+    let both = and-eq-true-iff (allowed (sourcePage p)) (allowed (outputPage p)) .0 (sides .0) in (
+      record {
+        from = Laws.placed (sourcePage p) (n .source) (both .0) (source .0);
+        to = Laws.placed (outputPage p) (n .output) (both .1) (output .0);
+        room = leb-true _ _ (scratch .0);
+      },
+      boxes-done (p .width) (p .height) (boxesOf t) 0 next work (scratch .1),
+    )
   where
     never-sides : BadSides ≡ Done work → ⊥
     never-sides h = let z : _≡_ {A = ℕ} 0 1 = cc in omega arith
@@ -68,18 +86,25 @@ placed-done t p n next work e =
     never-scratch : ScratchTooShort ≡ Done work → ⊥
     never-scratch h = let z : _≡_ {A = ℕ} 0 1 = cc in omega arith
 
-under-done : (verdict : Verdict) (ticket : List ℕ) (p : Placements) (n : Lengths) (work : ℕ) → answerUnder verdict ticket p n ≡ Done work → (verdict ≡ Good) × Lies p n
-unfolding answerUnder
-under-done Good ticket p n work e = (refl, placed-done (shown ticket) p n (Done (workOf (shown ticket) (p .width) (p .height))) work e)
-under-done (Refused fault at) ticket p n work e = let z : _≡_ {A = ℕ} 0 1 = cc in absurd (omega arith)
+-- what a finished job has: its ticket is good, its pages lie in their trays, and its work is that of the ticket and the sides
+pub record Finished (ticket : List ℕ) (p : Placements) (n : Lengths) (work : ℕ) : Type 0 where
+  pub good : judged ticket ≡ Good
+  pub lies : Lies p n
+  pub counted : work ≡ workOf (shown ticket) (p .width) (p .height)
 
-pub finished-good : (ticket : List ℕ) (p : Placements) (n : Lengths) (work : ℕ) → answer ticket p n ≡ Done work → judged ticket ≡ Good
-unfolding answer
-finished-good ticket p n work e = under-done (judged ticket) ticket p n work e .0
+under-done :
+    (verdict : Verdict) (ticket : List ℕ) (p : Placements) (n : Lengths) (work : ℕ) → judged ticket ≡ verdict
+    → answerUnder verdict ticket p n ≡ Done work → Finished ticket p n work
+unfolding answerUnder workIn
+under-done Good ticket p n work is e =
+    let x = placed-done (shown ticket) p n (Done (workOf (shown ticket) (p .width) (p .height))) work e in
+    record { good = is; lies = x .0; counted = sym (ap workIn (x .1)) }
+under-done (Refused fault at) ticket p n work is e = let z : _≡_ {A = ℕ} 0 1 = cc in absurd (omega arith)
 
-pub finished-lies : (ticket : List ℕ) (p : Placements) (n : Lengths) (work : ℕ) → answer ticket p n ≡ Done work → Lies p n
+pub finished-job :
+    (ticket : List ℕ) (p : Placements) (n : Lengths) (work : ℕ) → answer ticket p n ≡ Done work → Finished ticket p n work
 unfolding answer
-finished-lies ticket p n work e = under-done (judged ticket) ticket p n work e .1
+finished-job ticket p n work e = under-done (judged ticket) ticket p n work refl e
 
 -- ---- what each answer makes of a tray
 
@@ -121,13 +146,15 @@ no-work (BadBox k) refused = refl
 
 -- a finished job's output tray has the finished page's pixels
 pub output-pixel :
-    (ticket : List ℕ) (p : Placements) (source out scratch : List ℕ) (work : ℕ) → answer ticket p (lengths source out scratch) ≡ Done work
-    → (c r : ℕ) → c < p .width → r < p .height
-    → getD (outputAfter ticket p source out scratch) (byteOf (outputPage p) c r) 0 ≡ finished (shown ticket) (sourcePage p) source c r
-unfolding outputAfter outputPage
+    (ticket : List ℕ) (p : Placements) (source out scratch : List ℕ) (work : ℕ)
+    → answer ticket p (lengths source out scratch) ≡ Done work → (c r : ℕ) → c < p .width → r < p .height
+    → pixelIn (outputAfter ticket p source out scratch) (outputPage p) c r ≡ finished (shown ticket) (sourcePage p) source c r
+unfolding outputAfter outputPage pixelIn
 output-pixel ticket p source out scratch work done c r c-in r-in =
-    let to = finished-lies ticket p (lengths source out scratch) work done .to in
+    let to = finished-job ticket p (lengths source out scratch) work done .lies .to in
     let page = finished (shown ticket) (sourcePage p) source in
     let room = Laws.row-room (outputPage p) (length out) r to r-in in
-    ap (λ (tray : List ℕ). getD tray (byteOf (outputPage p) c r) 0) (when-done (answer ticket p (lengths source out scratch)) work (written (outputPage p) page out) out done)
-    ∙ Laws.written-pixel (outputPage p) page out c r (omega (arith, to .stride-least)) c-in r-in (omega (arith, Laws.byte-is (outputPage p) c r))
+    ap (λ (tray : List ℕ). getD tray (byteOf (outputPage p) c r) 0)
+    (when-done (answer ticket p (lengths source out scratch)) work (written (outputPage p) page out) out done)
+    ∙ Laws.written-pixel (outputPage p) page out c r (omega (arith, to .stride-least)) c-in r-in
+    (omega (arith, Laws.byte-is (outputPage p) c r))
