@@ -8,12 +8,14 @@ use Rattle.filter.specs.Seen.{turned}
 use Rattle.filter.specs.Filters.{View}
 
 -- a page by its axes is the page by columns and rows
-pub turned-is : (steep : Bool) (page : View) (c r : ℕ) → turned steep page c r ≡ page (downOf steep c r) (acrossOf steep c r)
+pub turned-is :
+    (steep : Bool) (page : View) (c r : ℕ) → turned steep page c r ≡ page (downOf steep c r) (acrossOf steep c r)
 unfolding turned downOf acrossOf
 turned-is true page c r = refl
 turned-is false page c r = refl
 
-pub turned-back : (steep : Bool) (page : View) (c r : ℕ) → turned steep page (downOf steep c r) (acrossOf steep c r) ≡ page c r
+pub turned-back :
+    (steep : Bool) (page : View) (c r : ℕ) → turned steep page (downOf steep c r) (acrossOf steep c r) ≡ page c r
 unfolding turned downOf acrossOf
 turned-back true page c r = refl
 turned-back false page c r = refl

@@ -1,5 +1,5 @@
--- The reach of operations 3 and 4 is exact: a run of L steps that holds both the pixel and the near one comes through an opening, or a
--- closing, and is wiped out when the near one is changed.
+-- The reach of operations 3 and 4 is exact: a run of L steps that holds both the pixel and the near one comes through
+-- an opening, or a closing, and is wiped out when the near one is changed.
 -- Assumes nothing.
 use mathlib.Core.Path.{_≡_, sym, _∙_}
 use mathlib.Core.Bool.{not}
@@ -17,10 +17,11 @@ use Rattle.demands.specs.Near.{stepAt, Near}
 use Rattle.demands.specs.Exact.{Clear, Matters, ExactReach}
 use Rattle.demands.proofs.Near.{near-in}
 use Rattle.demands.proofs.ExactNumbers.{winner, winners-differ, twice-run, twice-changed}
-use Rattle.demands.proofs.ExactTrays.{Passes, passes, result, runTray, changedTray, run-length, run-bytes, changed-length, changed-bytes, changed-elsewhere, run-on, changed-on}
+use Rattle.demands.proofs.ExactTrays.{Passes, passes, result, runTray, changedTray, run-length, run-bytes}
+use Rattle.demands.proofs.ExactTrays.{changed-length, changed-bytes, changed-elsewhere, run-on, changed-on}
 
-module _ (t : Ticket) (p : Placement) (n c r : ℕ) (ok : Allowed t) (placed : Placed p n) (clear : Clear t p c r) (w : Passes t)
-    (c′ r′ : ℕ) (near : Near t p c r c′ r′) where
+module _ (t : Ticket) (p : Placement) (n c r : ℕ) (ok : Allowed t) (placed : Placed p n) (clear : Clear t p c r)
+    (w : Passes t) (c′ r′ : ℕ) (near : Near t p c r c′ r′) where
   abbrev l : Line
   l = lineOf t
 

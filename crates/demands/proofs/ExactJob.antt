@@ -1,5 +1,5 @@
--- The exact reach, of the job: a job that nothing refuses puts the finished page into the output tray, and the two pages that differ in one
--- pixel are answered alike.
+-- The exact reach, of the job: a job that nothing refuses puts the finished page into the output tray, and the two
+-- pages that differ in one pixel are answered alike.
 -- Assumes nothing.
 use mathlib.Core.Path.{_≡_, sym, ap, _∙_}
 use mathlib.Core.List.{List}
@@ -16,12 +16,13 @@ use Rattle.demands.specs.Exact.{ExactJobReach}
 use Rattle.demands.proofs.Finishing.{finished-job, output-pixel}
 use Rattle.demands.proofs.Exact.{exact-reach}
 
-module _ (ticket : List ℕ) (p : Placements) (n : Lengths) (work c r : ℕ) (done : answer ticket p n ≡ Done work) (c-in : c < p .width)
-    (r-in : r < p .height) where
+module _ (ticket : List ℕ) (p : Placements) (n : Lengths) (work c r : ℕ) (done : answer ticket p n ≡ Done work)
+    (c-in : c < p .width) (r-in : r < p .height) where
   -- a job with trays of these lengths puts out the finished page
   output-at :
       (source out scratch : List ℕ) → length source ≡ n .source → length out ≡ n .output → length scratch ≡ n .scratch
-      → pixelIn (outputAfter ticket p source out scratch) (outputPage p) c r ≡ finished (shown ticket) (sourcePage p) source c r
+      → pixelIn (outputAfter ticket p source out scratch) (outputPage p) c r
+      ≡ finished (shown ticket) (sourcePage p) source c r
   output-at source out scratch s o x =
       let also : answer ticket p (lengths source out scratch) ≡ Done work =
       ap (answer ticket p) (λ i. record { source = s i; output = o i; scratch = x i }) ∙ done in

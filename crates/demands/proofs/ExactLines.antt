@@ -1,4 +1,4 @@
--- Two passes at a pixel whose line is there for as far as they look: they are the two passes over the numbers of its line.
+-- Two passes at a pixel whose line is there for as far as they look are the two passes over the numbers of its line.
 -- Assumes nothing.
 use mathlib.Core.Path.{_≡_, refl, sym, ap, ap₂, _∙_}
 use mathlib.Core.Bool.{Bool, not, cond}
@@ -23,7 +23,8 @@ extreme-is :
     → extreme low value k (suc n) ≡ some (best low f i n)
 unfolding extreme best joined
 extreme-is low value f k i zero same =
-    ap (λ (o : Option ℕ). joined low o none) (ap value (sym (add-zero k)) ∙ same 0 (omega arith) ∙ ap (λ (j : ℕ). some (f j)) (add-zero i))
+    ap (λ (o : Option ℕ). joined low o none)
+    (ap value (sym (add-zero k)) ∙ same 0 (omega arith) ∙ ap (λ (j : ℕ). some (f j)) (add-zero i))
 extreme-is low value f k i (suc n) same =
     ap₂ (joined low) (ap value (sym (add-zero k)) ∙ same 0 (omega arith) ∙ ap (λ (j : ℕ). some (f j)) (add-zero i))
     (extreme-is low value f (suc k) (suc i) n
@@ -43,7 +44,8 @@ module _ (l : Line) (sound : Sound l) (M m : ℕ) where
     window-onward : (a k : ℕ) → a ≤ y + k → inWindow l page a (majorAt l M y) m′ k ≡ onLine l page M m (y + k - a)
     unfolding inWindow
     window-onward a k h =
-        ap (λ (t : ℕ). cond (leb a (t + k)) (onLine l page (majorAt l M y) m′ (t + k - a)) none) (step-of-major l sound M y)
+        ap (λ (t : ℕ). cond (leb a (t + k)) (onLine l page (majorAt l M y) m′ (t + k - a)) none)
+        (step-of-major l sound M y)
         ∙ ap (λ (b : Bool). cond b (onLine l page (majorAt l M y) m′ (y + k - a)) none) (le-leb a (y + k) h)
         ∙ same-line l sound page M m y m′ (y + k - a) there
 
@@ -56,7 +58,8 @@ module _ (l : Line) (sound : Sound l) (M m : ℕ) where
   pass-on low a n page f y v on room same =
       let found = place-of page (majorAt l M y) v (landing l m (stepOf l M) y) on in
       ap (valueAt (pass low l a (suc n) page) (majorAt l M y)) (found .1)
-      ∙ ap (passAt low l a (suc n) page (majorAt l M y) (found .0)) (sym (ap (valueAt page (majorAt l M y)) (found .1)) ∙ on)
+      ∙ ap (passAt low l a (suc n) page (majorAt l M y) (found .0))
+      (sym (ap (valueAt page (majorAt l M y)) (found .1)) ∙ on)
       ∙ extreme-is low (inWindow l page a (majorAt l M y) (found .0)) f 0 (y - a) n
       (λ q h.
       ap (inWindow l page a (majorAt l M y) (found .0)) (zero-add q)
@@ -76,11 +79,13 @@ module _ (l : Line) (sound : Sound l) (M m : ℕ) where
         pass-on low a (a + b) page f y (f y) (near y (omega arith) (omega arith)) (omega arith)
         (λ q i. near (y - a + q) (omega arith) (omega arith))
 
-    pub twice-on : pass (not low) l b (suc (a + b)) (pass low l a (suc (a + b)) page) M m ≡ some (twice low a b f (stepOf l M))
+    pub twice-on :
+        pass (not low) l b (suc (a + b)) (pass low l a (suc (a + b)) page) M m ≡ some (twice low a b f (stepOf l M))
     unfolding twice
     twice-on =
         sym (own-value l sound (pass (not low) l b (suc (a + b)) (pass low l a (suc (a + b)) page)) M m)
-        ∙ pass-on (not low) b (a + b) (pass low l a (suc (a + b)) page) (λ (y : ℕ). best low f (y - a) (a + b)) (stepOf l M)
+        ∙ pass-on (not low) b (a + b) (pass low l a (suc (a + b)) page) (λ (y : ℕ). best low f (y - a) (a + b))
+        (stepOf l M)
         (best low f (stepOf l M - a) (a + b))
         (first-on (stepOf l M) (omega arith) (omega arith))
         (omega arith)

@@ -1,4 +1,5 @@
--- The pixels of a line in a tray: what the filter sees there, what two passes make of it, and trays with a run of one value in them.
+-- The pixels of a line in a tray: what the filter sees there, what two passes make of it, and trays with a run of one
+-- value in them.
 -- Assumes nothing.
 use mathlib.Core.Path.{_≡_, refl, sym, ap, ap₂, _∙_}
 use mathlib.Core.Bool.{Bool, true, false, not, _&&_, cond}
@@ -26,13 +27,15 @@ use Rattle.tray.specs.Written as tray
 use Rattle.tray.specs.Laws.{byte-is, row-room, across-in, cell-same, length-written, written-at, written-pixel}
 use Rattle.tray.specs.declared.Placement.{Placement}
 use Rattle.filter.specs.Seen.{boxesOf, hidden, lineOf, seen, turned, runsSteep}
-use Rattle.filter.specs.Filters.{View, valueAt, onLine, pass, orWhite, eroded, dilated, dilationBack, opened, closed, filtered, finished}
+use Rattle.filter.specs.Filters.{View, valueAt, onLine, pass, orWhite, eroded, dilated, dilationBack, opened, closed}
+use Rattle.filter.specs.Filters.{filtered, finished}
 use Rattle.demands.specs.Near.{majorPlace, minorPlace, stepAt, FewerSteps, Near}
 use Rattle.demands.specs.Exact.{OpensOrCloses, Clear, ClearSteps}
 use Rattle.demands.proofs.Axes.{turned-is, turned-back, down-back, across-back}
 use Rattle.demands.proofs.OnLines.{line-sound}
 use Rattle.demands.proofs.Near.{near-in, near-step}
-use Rattle.demands.proofs.ExactNumbers.{winner, winner-small, picked-small, twice, run, run-small, changed, changed-at, changed-else}
+use Rattle.demands.proofs.ExactNumbers.{winner, winner-small, picked-small, twice, run, run-small, changed}
+use Rattle.demands.proofs.ExactNumbers.{changed-at, changed-else}
 use Rattle.demands.proofs.ExactLines.{twice-on}
 
 -- ---- opening and closing are two passes, the second with the other extreme and the window turned round
@@ -45,6 +48,11 @@ pub record Passes (t : Ticket) : Type 0 where
   pub made :
       (page : View) → filtered t page ≡ pass (not low) (lineOf t) b (t .length) (pass low (lineOf t) a (t .length) page)
 
+-- what a ticket's operation makes of a page
+abbrev byOperation : Ticket → ℕ → View → View
+byOperation t o page =
+    cond (eqb o 1) (eroded t page) (cond (eqb o 2) (dilated t page) (cond (eqb o 3) (opened t page) (closed t page)))
+
 pub passes : (t : Ticket) → Allowed t → OpensOrCloses t → Passes t
 unfolding filtered opened closed eroded dilated dilationBack
 passes t ok (inl e) =
@@ -53,9 +61,7 @@ passes t ok (inl e) =
       a = t .origin;
       b = t .length - 1 - t .origin;
       sizes = omega (arith, ok .origin-below);
-      made =
-          λ page.
-          ap (λ (o : ℕ). cond (eqb o 1) (eroded t page) (cond (eqb o 2) (dilated t page) (cond (eqb o 3) (opened t page) (closed t page)))) e;
+      made = λ page. ap (λ (o : ℕ). byOperation t o page) e;
     }
 passes t ok (inr e) =
     record {
@@ -63,19 +69,19 @@ passes t ok (inr e) =
       a = t .length - 1 - t .origin;
       b = t .origin;
       sizes = omega (arith, ok .origin-below);
-      made =
-          λ page.
-          ap (λ (o : ℕ). cond (eqb o 1) (eroded t page) (cond (eqb o 2) (dilated t page) (cond (eqb o 3) (opened t page) (closed t page)))) e;
+      made = λ page. ap (λ (o : ℕ). byOperation t o page) e;
     }
 
 -- ---- the line through a clear pixel
 
 seen-there :
-    (boxes : List HiddenBox) (p : Placement) (tray : List ℕ) (c r : ℕ) → c < p .width → r < p .height → hidden boxes c r ≡ false
+    (boxes : List HiddenBox) (p : Placement) (tray : List ℕ) (c r : ℕ) → c < p .width → r < p .height
+    → hidden boxes c r ≡ false
     → seen boxes p tray c r ≡ some (pixelIn tray p c r)
 unfolding seen
 seen-there boxes p tray c r c-in r-in shown =
-    ap₂ (λ (one two : Bool). cond ((one && two) && not (hidden boxes c r)) (some (pixelIn tray p c r)) none) (lt-ltb _ _ c-in) (lt-ltb _ _ r-in)
+    ap₂ (λ (one two : Bool). cond ((one && two) && not (hidden boxes c r)) (some (pixelIn tray p c r)) none)
+    (lt-ltb _ _ c-in) (lt-ltb _ _ r-in)
     ∙ ap (λ (test : Bool). cond (not test) (some (pixelIn tray p c r)) none) shown
 
 -- the steps up to L - 1 on both sides of a clear pixel are near pixels
@@ -112,7 +118,9 @@ valueOn t p tray c r s =
 
 module _ (t : Ticket) (p : Placement) (c r : ℕ) (ok : Allowed t) (clear : Clear t p c r) where
   -- at a near pixel
-  on-near : (tray : List ℕ) (c′ r′ : ℕ) (x : Near t p c r c′ r′) → valueOn t p tray c r (x .step) ≡ some (pixelIn tray p c′ r′)
+  on-near :
+      (tray : List ℕ) (c′ r′ : ℕ) (x : Near t p c r c′ r′)
+      → valueOn t p tray c r (x .step) ≡ some (pixelIn tray p c′ r′)
   unfolding valueOn onLine valueAt
   on-near tray c′ r′ x =
       let steep : Bool = runsSteep (lineOf t) in
@@ -150,25 +158,30 @@ module _ (p : Placement) (n : ℕ) (placed : Placed p n) where
   byte-same : (c r c′ r′ : ℕ) → c < p .width → c′ < p .width → byteOf p c r ≡ byteOf p c′ r′ → (c ≡ c′) × (r ≡ r′)
   byte-same c r c′ r′ c-in c′-in e =
       let level : r * p .stride + c ≡ r′ * p .stride + c′ = omega (arith, byte-is p c r, byte-is p c′ r′) in
-      let cell = cell-same (p .stride) r c r′ c′ (omega (arith, placed .stride-least)) (omega (arith, placed .stride-least)) level in
+      let cell = cell-same (p .stride) r c r′ c′ (omega (arith, placed .stride-least))
+      (omega (arith, placed .stride-least)) level in
       (cell .column, cell .row)
 
   length-filled : (page : ℕ → ℕ → ℕ) → length (written p page (replicate n 0)) ≡ n
   length-filled page = length-written p page (replicate n 0) ∙ length-replicate n 0
 
   filled-pixel :
-      (page : ℕ → ℕ → ℕ) (c r : ℕ) → c < p .width → r < p .height → pixelIn (written p page (replicate n 0)) p c r ≡ page c r
+      (page : ℕ → ℕ → ℕ) (c r : ℕ) → c < p .width → r < p .height
+      → pixelIn (written p page (replicate n 0)) p c r ≡ page c r
   unfolding pixelIn
   filled-pixel page c r c-in r-in =
-      written-pixel p page (replicate n 0) c r (omega (arith, placed .stride-least)) c-in r-in (rw length-replicate (byte-in c r c-in r-in))
+      written-pixel p page (replicate n 0) c r (omega (arith, placed .stride-least)) c-in r-in
+      (rw length-replicate (byte-in c r c-in r-in))
 
-  filled-small : (page : ℕ → ℕ → ℕ) → ((c r : ℕ) → page c r ≤ 1) → (i : ℕ) → getD (written p page (replicate n 0)) i 0 ≤ 1
+  filled-small :
+      (page : ℕ → ℕ → ℕ) → ((c r : ℕ) → page c r ≤ 1) → (i : ℕ) → getD (written p page (replicate n 0)) i 0 ≤ 1
   filled-small page small i =
       by-cases (decLt i n)
       (λ h.
       let here : i < length {A = ℕ} (replicate n 0) = rw length-replicate h in
       rw (written-at p page (replicate n 0) i here)
-      (picked-small (tray.inside p i) (page (columnOf p i) (rowOf p i)) (getD (replicate n 0) i 0) (small (columnOf p i) (rowOf p i))
+      (picked-small (tray.inside p i) (page (columnOf p i) (rowOf p i)) (getD (replicate n 0) i 0)
+      (small (columnOf p i) (rowOf p i))
       (omega (arith, getD-replicate {A = ℕ} n i 0 0 h))))
       (λ h.
       let past : length (written p page (replicate n 0)) ≤ i = omega (arith, length-filled page) in
@@ -194,7 +207,8 @@ module _ (l : Line) (p : Placement) (size : ℕ) (placed : Placed p size) (low :
   unfolding runTray runPage
   run-bytes i = filled-small p size placed (runPage l low q n) (λ c r. run-small low q n (stepAt l c r)) i
 
-  run-pixel : (c r : ℕ) → c < p .width → r < p .height → pixelIn (runTray l p size low q n) p c r ≡ run low q n (stepAt l c r)
+  run-pixel :
+      (c r : ℕ) → c < p .width → r < p .height → pixelIn (runTray l p size low q n) p c r ≡ run low q n (stepAt l c r)
   unfolding runTray runPage
   run-pixel c r c-in r-in = filled-pixel p size placed (runPage l low q n) c r c-in r-in
 
@@ -203,14 +217,16 @@ module _ (l : Line) (p : Placement) (size : ℕ) (placed : Placed p size) (low :
     unfolding changedTray
     changed-length = length-set (runTray l p size low q n) (byteOf p c r) (winner low) ∙ run-length
 
-    pub changed-elsewhere : (i : ℕ) → i ≢ byteOf p c r → getD (changedTray l p size low q n c r) i 0 ≡ getD (runTray l p size low q n) i 0
+    pub changed-elsewhere :
+        (i : ℕ) → i ≢ byteOf p c r → getD (changedTray l p size low q n c r) i 0 ≡ getD (runTray l p size low q n) i 0
     unfolding changedTray
     changed-elsewhere i h = getD-set-other (runTray l p size low q n) (byteOf p c r) i (winner low) 0 h
 
     changed-there : getD (changedTray l p size low q n c r) (byteOf p c r) 0 ≡ winner low
     unfolding changedTray
     changed-there =
-        getD-set-same (runTray l p size low q n) (byteOf p c r) (winner low) 0 (rw run-length (byte-in p size placed c r c-in r-in))
+        getD-set-same (runTray l p size low q n) (byteOf p c r) (winner low) 0
+        (rw run-length (byte-in p size placed c r c-in r-in))
 
     pub changed-bytes : (i : ℕ) → getD (changedTray l p size low q n c r) i 0 ≤ 1
     changed-bytes i =
@@ -235,17 +251,19 @@ module _ (l : Line) (p : Placement) (size : ℕ) (placed : Placed p size) (low :
 
 -- ---- the line through column c, row r in these trays
 
-module _ (t : Ticket) (p : Placement) (c r : ℕ) (ok : Allowed t) (clear : Clear t p c r) (size : ℕ) (placed : Placed p size)
-    (low : Bool) (q n : ℕ) where
+module _ (t : Ticket) (p : Placement) (c r : ℕ) (ok : Allowed t) (clear : Clear t p c r) (size : ℕ)
+    (placed : Placed p size) (low : Bool) (q n : ℕ) where
   abbrev before : List ℕ
   before = runTray (lineOf t) p size low q n
 
   run-value : (c′ r′ : ℕ) (x : Near t p c r c′ r′) → pixelIn before p c′ r′ ≡ run low q n (x .step)
   run-value c′ r′ x =
       let there = near-in t p c r c′ r′ x in
-      run-pixel (lineOf t) p size placed low q n c′ r′ (there .0) (there .1) ∙ ap (run low q n) (near-step t p c r c′ r′ ok x)
+      run-pixel (lineOf t) p size placed low q n c′ r′ (there .0) (there .1)
+      ∙ ap (run low q n) (near-step t p c r c′ r′ ok x)
 
-  pub run-on : (s : ℕ) → FewerSteps (t .length) (stepAt (lineOf t) c r) s → valueOn t p before c r s ≡ some (run low q n s)
+  pub run-on :
+      (s : ℕ) → FewerSteps (t .length) (stepAt (lineOf t) c r) s → valueOn t p before c r s ≡ some (run low q n s)
   run-on s few =
       let x = clear-steps t p c r ok clear s few in
       ap (valueOn t p before c r) (sym (x .at))
@@ -258,12 +276,14 @@ module _ (t : Ticket) (p : Placement) (c r : ℕ) (ok : Allowed t) (clear : Clea
     after = changedTray (lineOf t) p size low q n c₁ r₁
 
     changed-value :
-        (c′ r′ : ℕ) (y : Near t p c r c′ r′) → y .step ≢ x .step → pixelIn after p c′ r′ ≡ changed low q n (x .step) (y .step)
+        (c′ r′ : ℕ) (y : Near t p c r c′ r′) → y .step ≢ x .step
+        → pixelIn after p c′ r′ ≡ changed low q n (x .step) (y .step)
     changed-value c′ r′ y other =
         let here = near-in t p c r c₁ r₁ x in
         let there = near-in t p c r c′ r′ y in
         kept-pixel (lineOf t) p size placed low q n c₁ r₁ (here .0) (here .1) c′ r′ (there .0)
-        (λ e e′. other (sym (near-step t p c r c′ r′ ok y) ∙ ap₂ (stepAt (lineOf t)) e e′ ∙ near-step t p c r c₁ r₁ ok x))
+        (λ e e′. other
+        (sym (near-step t p c r c′ r′ ok y) ∙ ap₂ (stepAt (lineOf t)) e e′ ∙ near-step t p c r c₁ r₁ ok x))
         ∙ run-value c′ r′ y
         ∙ sym (changed-else low q n (x .step) (y .step) other)
 
@@ -284,4 +304,5 @@ module _ (t : Ticket) (p : Placement) (c r : ℕ) (ok : Allowed t) (clear : Clea
         ap (valueOn t p after c r) (sym (y .at))
         ∙ on-near t p c r ok clear after (y .column) (y .row) (y .near)
         ∙ ap {B = Option ℕ} some
-        (changed-value (y .column) (y .row) (y .near) (λ e. other (sym (y .at) ∙ e)) ∙ ap (changed low q n (x .step)) (y .at)))
+        (changed-value (y .column) (y .row) (y .near) (λ e. other (sym (y .at) ∙ e))
+        ∙ ap (changed low q n (x .step)) (y .at)))

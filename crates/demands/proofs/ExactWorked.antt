@@ -1,5 +1,5 @@
--- The exact reach of case 3 of document 01, an opening of a row of three pixels with L 2: the middle pixel has all its steps on the page, and
--- each of the three matters to it. So what the exact reach asks is met by a job of the documents.
+-- The exact reach of case 3 of document 01, an opening of a row of three pixels with L 2: the middle pixel has all its
+-- steps on the page, and each of the three matters to it: a job of the documents meets what the exact reach asks.
 -- Assumes nothing.
 use mathlib.Core.Path.{_≡_, refl}
 use mathlib.Core.Bool.{Bool, true, _&&_, and-eq-true-iff}
@@ -14,8 +14,12 @@ use Rattle.geometry.specs.Line.{floorDiv, D, shift, period, profile, place, lan
 use Rattle.geometry.specs.Number.{within, inPage, count, behind, ahead}
 use Rattle.runs.specs.Block.{rightward, leftward, resulting}
 use Rattle.runs.specs.Scratch.{total}
-use Rattle.ticket.specs.Fields.{byteAt, numberAt, signed16, signedAt, operationIn, lineIn, dxIn, dyIn, lengthIn, originIn, phaseIn, boxHead, boxIn, boxesIn}
-use Rattle.ticket.specs.Judging.{_then_, judgeHead, judgeSize, judgeField, operationKnown, lineKnown, isPeriodic, divided, coprime, vectorAllowed, lengthAllowed, originAllowed, phaseAllowed, judgeOperation, judgeLine, judgeVector, judgeLength, judgeOrigin, judgePhase, judgeBox, judged}
+use Rattle.ticket.specs.Fields.{byteAt, numberAt, signed16, signedAt, operationIn, lineIn, dxIn, dyIn, lengthIn}
+use Rattle.ticket.specs.Fields.{originIn, phaseIn, boxHead, boxIn, boxesIn}
+use Rattle.ticket.specs.Judging.{_then_, judgeHead, judgeSize, judgeField, operationKnown, lineKnown, isPeriodic}
+use Rattle.ticket.specs.Judging.{divided, coprime, vectorAllowed, lengthAllowed, originAllowed, phaseAllowed}
+use Rattle.ticket.specs.Judging.{judgeOperation, judgeLine, judgeVector, judgeLength, judgeOrigin, judgePhase, judgeBox}
+use Rattle.ticket.specs.Judging.{judged}
 use Rattle.ticket.specs.Judging as Judging
 use Rattle.ticket.specs.Laws.{Bytes}
 use Rattle.ticket.specs.Reading.{boxPlace, boxPlaces, shown}
@@ -24,7 +28,8 @@ use Rattle.tray.specs.Turned.{downOf, acrossOf}
 use Rattle.filter.specs.Seen.{hidden, boxesOf, lineOf, runsSteep}
 use Rattle.filter.specs.Filters.{dilationBack}
 use Rattle.filter.specs.Work.{charged, chargedAt, passWork, workOf}
-use Rattle.filter.specs.Job.{Lengths, sourcePage, outputPage, boxAllowed, unless, judgeBoxes, placed, answerUnder, answer}
+use Rattle.filter.specs.Job.{Lengths, sourcePage, outputPage, boxAllowed, unless, judgeBoxes, placed, answerUnder}
+use Rattle.filter.specs.Job.{answer}
 use Rattle.answer.specs.declared.Answer.the-variants.{Done}
 use Rattle.filter.specs.declared.Placements.{Placements}
 use Rattle.demands.specs.Near.{Near}
@@ -34,11 +39,18 @@ use Rattle.demands.proofs.ExactJob.{exact-job-reach}
 -- "ticket 01 00 01 03, 02 00 01 01, 03 00 04 00 01 00 00, 04 00 02 00 02, 05 00 02 00 00, 06 00 02 00 00"
 abbrev pub opening : List ℕ
 opening =
-    1 ∷ 0 ∷ 1 ∷ 3 ∷ 2 ∷ 0 ∷ 1 ∷ 1 ∷ 3 ∷ 0 ∷ 4 ∷ 0 ∷ 1 ∷ 0 ∷ 0 ∷ 4 ∷ 0 ∷ 2 ∷ 0 ∷ 2 ∷ 5 ∷ 0 ∷ 2 ∷ 0 ∷ 0 ∷ 6 ∷ 0 ∷ 2 ∷ 0 ∷ 0 ∷ []
+    1 ∷ 0 ∷ 1 ∷ 3 ∷ 2 ∷ 0 ∷ 1 ∷ 1 ∷ 3 ∷ 0 ∷ 4 ∷ 0 ∷ 1 ∷ 0 ∷ 0
+    ∷ 4 ∷ 0 ∷ 2 ∷ 0 ∷ 2 ∷ 5 ∷ 0 ∷ 2 ∷ 0 ∷ 0 ∷ 6 ∷ 0 ∷ 2 ∷ 0 ∷ 0 ∷ []
 
 -- a row of three pixels in trays that are just long enough
 abbrev pub row : Placements
-row = record { width = 3; height = 1; source = record { offset = 0; stride = 3 }; output = record { offset = 0; stride = 3 } }
+row =
+    record {
+      width = 3;
+      height = 1;
+      source = record { offset = 0; stride = 3 };
+      output = record { offset = 0; stride = 3 };
+    }
 
 abbrev pub sizes : Lengths
 sizes = record { source = 3; output = 3; scratch = 15 }
@@ -58,12 +70,20 @@ unfolding small
 opening-bytes = small-bytes opening refl
 
 opening-done : answer opening row sizes ≡ Done 6
-unfolding answer answerUnder placed judgeBoxes unless boxAllowed sourcePage outputPage sideAllowed allowed fits scratchNeeded workOf passWork chargedAt charged dilationBack runsSteep lineOf boxesOf steep majorOf minorOf floorDiv D shift period profile place landing stepOf majorAt within inPage count behind ahead rightward leftward resulting total byteAt numberAt signed16 signedAt operationIn lineIn dxIn dyIn lengthIn originIn phaseIn boxHead boxIn boxesIn judgeHead judgeSize judgeField operationKnown lineKnown isPeriodic divided coprime vectorAllowed lengthAllowed originAllowed phaseAllowed judgeOperation judgeLine judgeVector judgeLength judgeOrigin judgePhase judgeBox judged Judging.unless Judging.judgeBoxes _then_ shallow shown boxPlace boxPlaces
+unfolding answer answerUnder placed judgeBoxes unless boxAllowed sourcePage outputPage sideAllowed allowed fits
+    scratchNeeded workOf passWork chargedAt charged dilationBack runsSteep lineOf boxesOf steep majorOf minorOf floorDiv
+    D shift period profile place landing stepOf majorAt within inPage count behind ahead rightward leftward resulting
+    total byteAt numberAt signed16 signedAt operationIn lineIn dxIn dyIn lengthIn originIn phaseIn boxHead boxIn boxesIn
+    judgeHead judgeSize judgeField operationKnown lineKnown isPeriodic divided coprime vectorAllowed lengthAllowed
+    originAllowed phaseAllowed judgeOperation judgeLine judgeVector judgeLength judgeOrigin judgePhase judgeBox judged
+    Judging.unless Judging.judgeBoxes _then_ shallow shown boxPlace boxPlaces
 opening-done = refl
 
 -- the middle pixel stands at step 1
 middle-clear : Clear (shown opening) (sourcePage row) 1 0
-unfolding sourcePage runsSteep lineOf boxesOf hidden steep majorOf minorOf floorDiv D shift period profile place landing stepOf majorAt within inPage downOf acrossOf byteAt numberAt signed16 signedAt operationIn lineIn dxIn dyIn lengthIn originIn phaseIn boxHead boxIn boxesIn isPeriodic shown boxPlace boxPlaces
+unfolding sourcePage runsSteep lineOf boxesOf hidden steep majorOf minorOf floorDiv D shift period profile place landing
+    stepOf majorAt within inPage downOf acrossOf byteAt numberAt signed16 signedAt operationIn lineIn dxIn dyIn lengthIn
+    originIn phaseIn boxHead boxIn boxesIn isPeriodic shown boxPlace boxPlaces
 middle-clear =
     record {
       column = omega arith;
@@ -81,7 +101,9 @@ middle-clear =
 
 -- each of the three pixels is near it, and matters to it
 middle-near : (c : ℕ) → c < 3 → Near (shown opening) (sourcePage row) 1 0 c 0
-unfolding sourcePage runsSteep lineOf boxesOf hidden steep majorOf minorOf floorDiv D shift period profile place landing stepOf majorAt within inPage downOf acrossOf byteAt numberAt signed16 signedAt operationIn lineIn dxIn dyIn lengthIn originIn phaseIn boxHead boxIn boxesIn isPeriodic shown boxPlace boxPlaces
+unfolding sourcePage runsSteep lineOf boxesOf hidden steep majorOf minorOf floorDiv D shift period profile place landing
+    stepOf majorAt within inPage downOf acrossOf byteAt numberAt signed16 signedAt operationIn lineIn dxIn dyIn lengthIn
+    originIn phaseIn boxHead boxIn boxesIn isPeriodic shown boxPlace boxPlaces
 middle-near zero h =
     record {
       step = 0;
@@ -107,4 +129,5 @@ middle-near (suc (suc (suc c))) h = absurd (omega arith)
 
 pub middle-matters : (c : ℕ) → c < 3 → JobMatters opening row sizes 1 0 c 0
 unfolding byteAt numberAt operationIn shown
-middle-matters c h = exact-job-reach opening row sizes 6 1 0 opening-bytes opening-done (inl refl) middle-clear c 0 (middle-near c h)
+middle-matters c h =
+    exact-job-reach opening row sizes 6 1 0 opening-bytes opening-done (inl refl) middle-clear c 0 (middle-near c h)

@@ -22,9 +22,11 @@ use Rattle.filter.specs.Seen.{boxesOf}
 use Rattle.answer.specs.Answer.{numberOf, workIn}
 use Rattle.filter.specs.Filters.{finished}
 use Rattle.filter.specs.Work.{workOf}
-use Rattle.filter.specs.Job.{Lengths, sourcePage, outputPage, boxAllowed, unless, judgeBoxes, placed, answerUnder, answer, whenDone, lengths, outputAfter}
+use Rattle.filter.specs.Job.{Lengths, sourcePage, outputPage, boxAllowed, unless, judgeBoxes, placed, answerUnder}
+use Rattle.filter.specs.Job.{answer, whenDone, lengths, outputAfter}
 use Rattle.answer.specs.declared.Answer.{Answer}
-use Rattle.answer.specs.declared.Answer.the-variants.{Done, BadTicket, BadSides, SourceTooShort, OutputTooShort, ScratchTooShort, BadBox}
+use Rattle.answer.specs.declared.Answer.the-variants.{Done, BadTicket, BadSides, SourceTooShort, OutputTooShort}
+use Rattle.answer.specs.declared.Answer.the-variants.{ScratchTooShort, BadBox}
 use Rattle.filter.specs.declared.Placements.{Placements}
 
 -- both pages lie in their trays, and the scratch is long enough
@@ -34,7 +36,9 @@ pub record Lies (p : Placements) (n : Lengths) : Type 0 where
   pub room : scratchNeeded (p .width) (p .height) ≤ n .scratch
 
 -- a test that did not refuse was passed
-unless-done : (test : Bool) (refusal next : Answer) (work : ℕ) → (refusal ≡ Done work → ⊥) → unless test refusal next ≡ Done work → (test ≡ true) × (next ≡ Done work)
+unless-done :
+    (test : Bool) (refusal next : Answer) (work : ℕ) → (refusal ≡ Done work → ⊥) → unless test refusal next ≡ Done work
+    → (test ≡ true) × (next ≡ Done work)
 unfolding unless
 unless-done true refusal next work never e = (refl, e)
 unless-done false refusal next work never e = absurd (never e)
@@ -47,7 +51,7 @@ unfolding judgeBoxes
 boxes-done w h [] k next work e = e
 boxes-done w h (b ∷ boxes) k next work e =
     let rest : Answer = judgeBoxes w h boxes (suc k) next in
-    boxes-done w h boxes (suc k) next work (unless-done (boxAllowed w h b) (BadBox k) rest work (λ h. never h) e .1)
+    boxes-done w h boxes (suc k) next work (unless-done (boxAllowed w h b) (BadBox k) rest work never e .1)
   where
     never : BadBox k ≡ Done work → ⊥
     never h = let z : _≡_ {A = ℕ} 0 1 = cc in omega arith
@@ -61,10 +65,12 @@ placed-done t p n next work e =
     let fourth : Answer = unless (leb (scratchNeeded (p .width) (p .height)) (n .scratch)) ScratchTooShort boxes in
     let third : Answer = unless (fits (outputPage p) (n .output)) OutputTooShort fourth in
     let second : Answer = unless (fits (sourcePage p) (n .source)) SourceTooShort third in
-    let sides = unless-done (allowed (sourcePage p) && allowed (outputPage p)) BadSides second work (λ h. never-sides h) e in
-    let source = unless-done (fits (sourcePage p) (n .source)) SourceTooShort third work (λ h. never-source h) (sides .1) in
-    let output = unless-done (fits (outputPage p) (n .output)) OutputTooShort fourth work (λ h. never-output h) (source .1) in
-    let scratch = unless-done (leb (scratchNeeded (p .width) (p .height)) (n .scratch)) ScratchTooShort boxes work (λ h. never-scratch h) (output .1) in
+    let sides = unless-done (allowed (sourcePage p) && allowed (outputPage p)) BadSides second work never-sides e in
+    let source = unless-done (fits (sourcePage p) (n .source)) SourceTooShort third work never-source (sides .1) in
+    let output = unless-done (fits (outputPage p) (n .output)) OutputTooShort fourth work never-output (source .1) in
+    let scratch =
+    unless-done (leb (scratchNeeded (p .width) (p .height)) (n .scratch)) ScratchTooShort boxes work never-scratch
+    (output .1) in
     let both = and-eq-true-iff (allowed (sourcePage p)) (allowed (outputPage p)) .0 (sides .0) in (
       record {
         from = Laws.placed (sourcePage p) (n .source) (both .0) (source .0);
@@ -86,7 +92,7 @@ placed-done t p n next work e =
     never-scratch : ScratchTooShort ≡ Done work → ⊥
     never-scratch h = let z : _≡_ {A = ℕ} 0 1 = cc in omega arith
 
--- what a finished job has: its ticket is good, its pages lie in their trays, and its work is that of the ticket and the sides
+-- what a finished job has: its ticket is good, its pages lie in their trays, and its work is that of ticket and sides
 pub record Finished (ticket : List ℕ) (p : Placements) (n : Lengths) (work : ℕ) : Type 0 where
   pub good : judged ticket ≡ Good
   pub lies : Lies p n
@@ -102,7 +108,8 @@ under-done Good ticket p n work is e =
 under-done (Refused fault at) ticket p n work is e = let z : _≡_ {A = ℕ} 0 1 = cc in absurd (omega arith)
 
 pub finished-job :
-    (ticket : List ℕ) (p : Placements) (n : Lengths) (work : ℕ) → answer ticket p n ≡ Done work → Finished ticket p n work
+    (ticket : List ℕ) (p : Placements) (n : Lengths) (work : ℕ) → answer ticket p n ≡ Done work
+    → Finished ticket p n work
 unfolding answer
 finished-job ticket p n work e = under-done (judged ticket) ticket p n work refl e
 
@@ -123,7 +130,9 @@ when-refused ScratchTooShort done kept refused = refl
 when-refused (BadBox k) done kept refused = refl
 
 -- what holds of a finished tray and of a kept one holds whatever the answer is
-pub when-either {ℓ} : {X : Type ℓ} (P : X → Type 0) (a : Answer) (done kept : X) → P kept → ((work : ℕ) → a ≡ Done work → P done) → P (whenDone a done kept)
+pub when-either {ℓ} :
+    {X : Type ℓ} (P : X → Type 0) (a : Answer) (done kept : X) → P kept → ((work : ℕ) → a ≡ Done work → P done)
+    → P (whenDone a done kept)
 unfolding whenDone
 when-either P (Done work) done kept k d = d work refl
 when-either P (BadTicket fault at) done kept k d = k
@@ -148,7 +157,8 @@ no-work (BadBox k) refused = refl
 pub output-pixel :
     (ticket : List ℕ) (p : Placements) (source out scratch : List ℕ) (work : ℕ)
     → answer ticket p (lengths source out scratch) ≡ Done work → (c r : ℕ) → c < p .width → r < p .height
-    → pixelIn (outputAfter ticket p source out scratch) (outputPage p) c r ≡ finished (shown ticket) (sourcePage p) source c r
+    → pixelIn (outputAfter ticket p source out scratch) (outputPage p) c r
+    ≡ finished (shown ticket) (sourcePage p) source c r
 unfolding outputAfter outputPage pixelIn
 output-pixel ticket p source out scratch work done c r c-in r-in =
     let to = finished-job ticket p (lengths source out scratch) work done .lies .to in

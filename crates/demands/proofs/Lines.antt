@@ -1,4 +1,5 @@
--- What is used of lines beyond the laws of geometry. Each of these could be one of its laws; here alone its definitions are opened.
+-- What is used of lines beyond the laws of geometry. Each of these could be one of its laws; the proofs of the reach
+-- open its definitions here alone.
 -- Assumes nothing.
 use mathlib.Core.Path.{_≡_, sym, ap, ap₂, _∙_}
 use mathlib.Core.Bool.{Bool, true, _&&_, and-eq-true-iff}

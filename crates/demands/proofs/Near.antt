@@ -19,7 +19,8 @@ use Rattle.demands.proofs.OnLines.{line-sound}
 pub near-in : NearIn
 near-in t p c r c′ r′ n =
     let l : Line = lineOf t in
-    let there = in-page-landed l _ _ (majorPlace l c r) (minorPlace l c r) (n .step) _ (n .is-step .across) (n .on-page) in
+    let there =
+    in-page-landed l _ _ (majorPlace l c r) (minorPlace l c r) (n .step) _ (n .is-step .across) (n .on-page) in
     turned-in (runsSteep l) (p .width) (p .height) c′ r′ (omega (arith, there .0, n .is-step .along)) (there .1)
 
 pub near-step : NearStep

@@ -25,7 +25,8 @@ module _ (l : Line) (ok : Sound l) (page : View) (M m : ℕ) where
   own-value = ap₂ (valueAt page) (major-at-step l ok M) (own-landing l ok M m)
 
   -- the line through another of its pixels is the same line
-  pub same-line : (s m′ r : ℕ) → landing l m (stepOf l M) s ≡ some m′ → onLine l page (majorAt l M s) m′ r ≡ onLine l page M m r
+  pub same-line :
+      (s m′ r : ℕ) → landing l m (stepOf l M) s ≡ some m′ → onLine l page (majorAt l M s) m′ r ≡ onLine l page M m r
   unfolding onLine
   same-line s m′ r there =
       ap₂ (valueAt page) (major-of-major l ok M s r)

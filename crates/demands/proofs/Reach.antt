@@ -36,7 +36,8 @@ not-true : (b : Bool) → not b ≡ true → b ≡ false
 not-true true e = sym e
 not-true false e = refl
 
-module _ (t : Ticket) (p : Placement) (source source′ : List ℕ) (c r : ℕ) (agree : AgreeNear t p source source′ c r) where
+module _ (t : Ticket) (p : Placement) (source source′ : List ℕ) (c r : ℕ)
+    (agree : AgreeNear t p source source′ c r) where
   abbrev l : Line
   l = lineOf t
 
@@ -121,14 +122,16 @@ and-none true v = refl
 and-none false v = refl
 
 seen-none :
-    (boxes : List HiddenBox) (p : Placement) (tray : List ℕ) (c r : ℕ) → hidden boxes c r ≡ true → seen boxes p tray c r ≡ none
+    (boxes : List HiddenBox) (p : Placement) (tray : List ℕ) (c r : ℕ) → hidden boxes c r ≡ true
+    → seen boxes p tray c r ≡ none
 unfolding seen
 seen-none boxes p tray c r e =
     ap (λ (b : Bool). cond ((ltb c (p .width) && ltb r (p .height)) && not b) (some (pixelIn tray p c r)) none) e
     ∙ and-none (ltb c (p .width) && ltb r (p .height)) (pixelIn tray p c r)
 
 finished-hidden :
-    (t : Ticket) (p : Placement) (source : List ℕ) (c r : ℕ) → hidden (boxesOf t) c r ≡ true → finished t p source c r ≡ 255
+    (t : Ticket) (p : Placement) (source : List ℕ) (c r : ℕ) → hidden (boxesOf t) c r ≡ true
+    → finished t p source c r ≡ 255
 unfolding finished orWhite
 finished-hidden t p source c r e =
     let steep : Bool = runsSteep (lineOf t) in

@@ -7,7 +7,8 @@ use Rattle.demands.specs.Same.{SameAnswer, SameNumber, SamePlace, SameWo
 
 pub same-answer : SameAnswer
 same-answer ticket p source source′ out out′ scratch scratch′ same =
-    ap (answer ticket p) (λ i. record { source = same .sources i; output = same .outputs i; scratch = same .scratches i })
+    ap (answer ticket p)
+    (λ i. record { source = same .sources i; output = same .outputs i; scratch = same .scratches i })
 
 pub same-number : SameNumber
 same-number ticket p source source′ out out′ scratch scratch′ same =

@@ -12,7 +12,8 @@ use Rattle.tray.specs.Laws.{inside-pixel, written-outside, length-written, clea
 use Rattle.tray.specs.declared.Placement.{Placement}
 use Rattle.filter.specs.Filters.{finished}
 use Rattle.filter.specs.Job.{sourcePage, outputPage, answer, lengths, outputAfter, scratchAfter}
-use Rattle.demands.specs.Untouched.{OffPage, OutputKept, OutputLength, ScratchKept, ScratchLength, ScratchZero, RefusedOutput, RefusedScratch, RefusedWork}
+use Rattle.demands.specs.Untouched.{OffPage, OutputKept, OutputLength, ScratchKept, ScratchLength, ScratchZero}
+use Rattle.demands.specs.Untouched.{RefusedOutput, RefusedScratch, RefusedWork}
 use Rattle.demands.proofs.Finishing.{finished-job, when-done, when-refused, when-either, no-work}
 
 off-page : (p : Placement) (i : ℕ) → OffPage p i → inside p i ≡ false
@@ -26,9 +27,11 @@ off-page p i off = by-place (inside p i) refl
 pub output-kept : OutputKept
 unfolding outputAfter
 output-kept ticket p source out scratch i off =
-    when-either (λ (tray : List ℕ). getD tray i 0 ≡ getD out i 0) (answer ticket p (lengths source out scratch)) _ out refl
+    when-either (λ (tray : List ℕ). getD tray i 0 ≡ getD out i 0)
+    (answer ticket p (lengths source out scratch)) _ out refl
     (λ work e.
-    written-outside (outputPage p) (finished (shown ticket) (sourcePage p) source) out i (off-page (outputPage p) i off))
+    written-outside (outputPage p) (finished (shown ticket) (sourcePage p) source) out i
+    (off-page (outputPage p) i off))
 
 pub output-length : OutputLength
 unfolding outputAfter
@@ -39,13 +42,15 @@ output-length ticket p source out scratch =
 pub scratch-kept : ScratchKept
 unfolding scratchAfter
 scratch-kept ticket p source out scratch i past =
-    when-either (λ (tray : List ℕ). getD tray i 0 ≡ getD scratch i 0) (answer ticket p (lengths source out scratch)) _ scratch refl
+    when-either (λ (tray : List ℕ). getD tray i 0 ≡ getD scratch i 0)
+    (answer ticket p (lengths source out scratch)) _ scratch refl
     (λ work e. cleared-above (scratchNeeded (p .width) (p .height)) scratch i past)
 
 pub scratch-length : ScratchLength
 unfolding scratchAfter
 scratch-length ticket p source out scratch =
-    when-either (λ (tray : List ℕ). length tray ≡ length scratch) (answer ticket p (lengths source out scratch)) _ scratch refl
+    when-either (λ (tray : List ℕ). length tray ≡ length scratch)
+    (answer ticket p (lengths source out scratch)) _ scratch refl
     (λ work e.
     length-cleared (scratchNeeded (p .width) (p .height)) scratch
     (finished-job ticket p (lengths source out scratch) work e .lies .room))

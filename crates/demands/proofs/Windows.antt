@@ -1,4 +1,4 @@
--- What a filter's window reaches: a pass looks at its window only, and two windows end to end reach L - 1 steps each way.
+-- What a filter's windows reach: a pass looks at its window only, and two windows end to end reach L - 1 steps each way.
 -- Assumes nothing.
 use mathlib.Core.Path.{_≡_, refl, sym, ap, ap₂, _∙_}
 use mathlib.Core.Bool.{Bool, true, false, cond}
@@ -14,7 +14,8 @@ use Rattle.geometry.specs.declared.Line.{Line}
 use Rattle.ticket.specs.Laws.{Allowed}
 use Rattle.ticket.specs.declared.Ticket.{Ticket}
 use Rattle.filter.specs.Seen.{lineOf}
-use Rattle.filter.specs.Filters.{View, joined, extreme, valueAt, onLine, inWindow, passAt, pass, eroded, dilationBack, dilated, opened, closed, filtered}
+use Rattle.filter.specs.Filters.{View, joined, extreme, valueAt, onLine, inWindow, passAt, pass, eroded, dilationBack}
+use Rattle.filter.specs.Filters.{dilated, opened, closed, filtered}
 use Rattle.demands.proofs.OnLines.{line-sound, own-value, same-line}
 
 -- ---- one pass
@@ -60,7 +61,8 @@ module _ (l : Line) (ok : Sound l) where
 
 -- ---- two passes
 
--- s is in the window of t that begins b steps back, r in the window of s that begins a steps back: r is fewer than L = a + 1 + b steps from t
+-- s is in the window of t that begins b steps back, r in the window of s that begins a steps back, and L = a + 1 + b:
+-- r is fewer than L steps from t
 not-before : (a b L t s r : ℕ) → suc (a + b) ≡ L → t ≤ s + b → s ≤ r + a → t < r + L
 not-before a b L t s r whole h k = omega arith
 
@@ -138,7 +140,8 @@ module _ (t : Ticket) (ok : Allowed t) where
 
 -- ---- an absent pixel stays absent
 
-pass-absent : (low : Bool) (l : Line) (a n : ℕ) (page : View) (M m : ℕ) → page M m ≡ none → pass low l a n page M m ≡ none
+pass-absent :
+    (low : Bool) (l : Line) (a n : ℕ) (page : View) (M m : ℕ) → page M m ≡ none → pass low l a n page M m ≡ none
 unfolding pass passAt
 pass-absent low l a n page M m e = ap (passAt low l a n page M m) e
 

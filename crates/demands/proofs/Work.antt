@@ -16,7 +16,8 @@ use Rattle.ticket.specs.declared.Ticket.{Ticket}
 use Rattle.filter.specs.Seen.{lineOf, runsSteep}
 use Rattle.filter.specs.Filters.{dilationBack}
 use Rattle.filter.specs.Work.{charged, chargedAt, passWork, workOf}
-use Rattle.demands.specs.Work.{PassWork, OnePassWork, TwoPassWork, FinishedWork, FinishedOnePass, FinishedTwoPasses}
+use Rattle.demands.specs.Work.{PassWork, OnePassWork, TwoPassWork, FinishedWork, FinishedOnePass}
+use Rattle.demands.specs.Work.{FinishedTwoPasses}
 use Rattle.demands.proofs.Finishing.{finished-job}
 
 one-or-none : (b : Bool) → cond b 0 1 ≤ 1
@@ -70,7 +71,10 @@ module _ (t : Ticket) (w h : ℕ) where
       )
 
   by-operation : ℕ → ℕ
-  by-operation o = cond (eqb o 1) (pass (t .origin)) (cond (eqb o 2) (pass (dilationBack t)) (pass (t .origin) + pass (dilationBack t)))
+  by-operation o =
+      let eroding : ℕ = pass (t .origin) in
+      let dilating : ℕ = pass (dilationBack t) in
+      cond (eqb o 1) eroding (cond (eqb o 2) dilating (eroding + dilating))
 
 pub one-pass-work : OnePassWork
 unfolding workOf by-operation

@@ -1,14 +1,17 @@
--- The demands that are theorems over the job's definitions: every statement of this crate, in one record. proofs/Demands.antt has its proof.
+-- The demands that are theorems over the job's definitions: every statement of this crate, in one record.
+-- proofs/Demands.antt has its proof.
 -- Assumes nothing.
 use Rattle.demands.specs.Same.{SameAnswer, SameNumber, SamePlace, SameWork}
-use Rattle.demands.specs.Untouched.{OutputKept, OutputLength, ScratchKept, ScratchLength, ScratchZero, RefusedOutput, RefusedScratch, RefusedWork}
-use Rattle.demands.specs.Work.{PassWork, OnePassWork, TwoPassWork, FinishedWork, FinishedOnePass, FinishedTwoPasses}
+use Rattle.demands.specs.Untouched.{OutputKept, OutputLength, ScratchKept, ScratchLength, ScratchZero}
+use Rattle.demands.specs.Untouched.{RefusedOutput, RefusedScratch, RefusedWork}
+use Rattle.demands.specs.Work.{PassWork, OnePassWork, TwoPassWork, FinishedWork, FinishedOnePass}
+use Rattle.demands.specs.Work.{FinishedTwoPasses}
 use Rattle.demands.specs.Near.{NearIn, NearSelf, NearStep, NearBack}
 use Rattle.demands.specs.Reach.{Reach, PageAlone, HiddenWhite}
 use Rattle.demands.specs.Exact.{ClearSteps, ExactReach, ExactJobReach}
 
 pub record Demands : Type 0 where
-  -- 1. "A refused job writes nothing; a finished one writes only its page and leaves the scratch it used at zero"
+  -- 1. a refused job writes nothing; a finished one writes only its page and leaves the scratch it used at zero
   pub output-kept : OutputKept
   pub output-length : OutputLength
   pub scratch-kept : ScratchKept

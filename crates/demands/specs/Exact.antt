@@ -1,6 +1,7 @@
--- Document 01, 'What answers may depend on': "The reach is exact for operations 3 and 4: if a pixel and all steps up to L-1 on both sides
--- of it are on the page and in no box, then for each of them two pages exist that differ only there and give that pixel different
--- results." Said of the finished page and of the job, over the nearness (Near) that the reach is stated over.
+-- Document 01, 'What answers may depend on': "The reach is exact for operations 3 and 4: if a pixel and all steps up to
+-- L-1 on both sides of it are on the page and in no box, then for each of them two pages exist that differ only there
+-- and give that pixel different results." Said of the finished page and of the job, over the nearness (Near) that the
+-- reach is stated over.
 -- Assumes nothing.
 use mathlib.Core.Path.{_≡_}
 use mathlib.Core.Bool.{true, false}
@@ -25,8 +26,8 @@ use Rattle.demands.specs.Near.{stepAt, onPage, FewerSteps, Near}
 abbrev pub OpensOrCloses : Ticket → Type 0
 OpensOrCloses t = (t .operation ≡ 3) ⊎ (t .operation ≡ 4)
 
--- "a pixel and all steps up to L-1 on both sides of it are on the page and in no box": the steps are counted from 0, so the L-1 steps
--- before the pixel are there if it stands at step L-1 or later
+-- "a pixel and all steps up to L-1 on both sides of it are on the page and in no box": the steps are counted from 0, so
+-- the L-1 steps before the pixel are there if it stands at step L-1 or later
 pub record Clear (t : Ticket) (p : Placement) (c r : ℕ) : Type 0 where
   pub column : c < p .width
   pub row : r < p .height
@@ -41,14 +42,15 @@ pub record NearAt (t : Ticket) (p : Placement) (c r s : ℕ) : Type 0 where
   pub near : Near t p c r column row
   pub at : near .step ≡ s
 
--- The steps up to L-1 on both sides of a clear pixel are all near pixels, so nothing is left out where the reach is said to be exact at these.
+-- The steps up to L-1 on both sides of a clear pixel are all near pixels, so nothing is left out where the reach is
+-- said to be exact at these.
 abbrev pub ClearSteps : Type 0
 ClearSteps =
     (t : Ticket) (p : Placement) (c r : ℕ) → Allowed t → Clear t p c r
     → (s : ℕ) → FewerSteps (t .length) (stepAt (lineOf t) c r) s → NearAt t p c r s
 
--- "two pages exist that differ only there and give that pixel different results": two trays of n bytes that differ at one byte at most,
--- that of column c′, row r′, and the results at column c, row r
+-- "two pages exist that differ only there and give that pixel different results": two trays of n bytes that differ at
+-- one byte at most, that of column c′, row r′, and the results at column c, row r
 pub record Matters (t : Ticket) (p : Placement) (n c r c′ r′ : ℕ) : Type 0 where
   pub one : List ℕ
   pub two : List ℕ
@@ -65,11 +67,13 @@ ExactReach =
     (t : Ticket) (p : Placement) (n c r : ℕ) → Allowed t → OpensOrCloses t → Placed p n → Clear t p c r
     → (c′ r′ : ℕ) → Near t p c r c′ r′ → Matters t p n c r c′ r′
 
--- the same two pages as jobs: what stands at column c, row r of the output page differs, whatever the output trays and the scratches held
+-- the same two pages as jobs: what stands at column c, row r of the output page differs, whatever the output trays and
+-- the scratches held
 pub record JobMatters (ticket : List ℕ) (p : Placements) (n : Lengths) (c r c′ r′ : ℕ) : Type 0 where
   pub pages : Matters (shown ticket) (sourcePage p) (n .source) c r c′ r′
   pub outputs-differ :
-      (out out′ scratch scratch′ : List ℕ) → length out ≡ n .output → length out′ ≡ n .output → length scratch ≡ n .scratch
+      (out out′ scratch scratch′ : List ℕ) → length out ≡ n .output → length out′ ≡ n .output
+      → length scratch ≡ n .scratch
       → length scratch′ ≡ n .scratch
       → pixelIn (outputAfter ticket p (pages .one) out scratch) (outputPage p) c r
       ≢ pixelIn (outputAfter ticket p (pages .two) out′ scratch′) (outputPage p) c r

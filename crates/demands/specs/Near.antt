@@ -1,7 +1,9 @@
--- Which pixels are near a pixel: those of its own line fewer than L steps away, on the page. Document 01, 'Lines': "Each pixel lies on one
--- line. Its in-page pixels are consecutive steps". The reach (Reach) and its exactness (Exact) are stated over this one nearness.
--- A pixel at M of the axis along which its line runs, and at m of the other, stands at step stepOf l M of its line; step s of that line is
--- at majorAt l M s of the first axis and lands on landing l m (stepOf l M) s of the other (geometry, Line).
+-- Which pixels are near a pixel: those of its own line fewer than L steps away, on the page. Document 01, 'Lines':
+-- "Each pixel lies on one line. Its in-page pixels are consecutive steps". The reach (Reach) and its exactness (Exact)
+-- are stated over this one nearness.
+-- A pixel at M of the axis along which its line runs, and at m of the other, stands at step stepOf l M of its line;
+-- step s of that line is at majorAt l M s of the first axis and lands on landing l m (stepOf l M) s of the other
+-- (geometry, Line).
 -- Assumes nothing.
 use mathlib.Core.Path.{_≡_}
 use mathlib.Core.Bool.{Bool, true}
@@ -16,7 +18,7 @@ use Rattle.tray.specs.Turned.{downOf, acrossOf}
 use Rattle.tray.specs.declared.Placement.{Placement}
 use Rattle.filter.specs.Seen.{lineOf, runsSteep}
 
--- a pixel's place along the major axis, the columns of a shallow line and the rows of a steep one, and its place on the other axis
+-- a pixel's place along the major axis (the columns of a shallow line, the rows of a steep one), and along the other
 abbrev pub majorPlace : Line → ℕ → ℕ → ℕ
 majorPlace l c r = downOf (runsSteep l) c r
 
@@ -35,14 +37,16 @@ pub record IsStep (l : Line) (c r s c′ r′ : ℕ) : Type 0 where
 -- whether step s of the line through column c, row r is in the page
 abbrev pub onPage : Line → Placement → ℕ → ℕ → ℕ → Bool
 onPage l p c r s =
-    inPage l (majorPlace l (p .width) (p .height)) (minorPlace l (p .width) (p .height)) (majorPlace l c r) (minorPlace l c r) s
+    inPage l (majorPlace l (p .width) (p .height)) (minorPlace l (p .width) (p .height)) (majorPlace l c r)
+    (minorPlace l c r) s
 
 -- step s′ of a line is fewer than L steps from its step s: the step itself is, and L-1 steps on both sides
 pub record FewerSteps (L s s′ : ℕ) : Type 0 where
   pub back : s < s′ + L
   pub on : s′ < s + L
 
--- NEAR: the pixel at column c′, row r′ is a step of the line through column c, row r, on the page, fewer than L steps away. It may be hidden.
+-- NEAR: the pixel at column c′, row r′ is a step of the line through column c, row r, on the page, fewer than L steps
+-- away. It may be hidden.
 pub record Near (t : Ticket) (p : Placement) (c r c′ r′ : ℕ) : Type 0 where
   pub step : ℕ
   pub fewer : FewerSteps (t .length) (stepAt (lineOf t) c r) step
@@ -63,7 +67,8 @@ NearSelf = (t : Ticket) (p : Placement) (c r : ℕ) → Allowed t → c < p .wid
 -- each is as many steps away as its own step says,
 abbrev pub NearStep : Type 0
 NearStep =
-    (t : Ticket) (p : Placement) (c r c′ r′ : ℕ) → Allowed t → (n : Near t p c r c′ r′) → stepAt (lineOf t) c′ r′ ≡ n .step
+    (t : Ticket) (p : Placement) (c r c′ r′ : ℕ) → Allowed t → (n : Near t p c r c′ r′)
+    → stepAt (lineOf t) c′ r′ ≡ n .step
 
 -- and nearness goes both ways.
 abbrev pub NearBack : Type 0

@@ -1,6 +1,7 @@
--- Document 01, 'What answers may depend on': "A result pixel: these, and the unhidden pixels named in demand 3; a step over a hidden pixel
--- still counts as a step." Those are the unhidden pixels on the pixel's line fewer than L steps away, for all four operations: also for
--- opening and closing, whose two windows together reach L - 1 steps each way and not 2(L - 1).
+-- Document 01, 'What answers may depend on': "A result pixel: these, and the unhidden pixels named in demand 3; a step
+-- over a hidden pixel still counts as a step." Those are the unhidden pixels on the pixel's line fewer than L steps
+-- away, for all four operations: also for opening and closing, whose two windows together reach L - 1 steps each way
+-- and not 2(L - 1).
 -- Assumes nothing.
 use mathlib.Core.Path.{_≡_}
 use mathlib.Core.Bool.{true, false}
@@ -28,11 +29,13 @@ AgreeNear t p source source′ c r =
 -- they agree on all unhidden pixels of the page
 unfoldable pub AgreeOnPage : Ticket → Placement → List ℕ → List ℕ → Type 0
 AgreeOnPage t p source source′ =
-    (c r : ℕ) → c < p .width → r < p .height → hidden (boxesOf t) c r ≡ false → pixelIn source p c r ≡ pixelIn source′ p c r
+    (c r : ℕ) → c < p .width → r < p .height → hidden (boxesOf t) c r ≡ false
+    → pixelIn source p c r ≡ pixelIn source′ p c r
 
--- THE REACH. Of two jobs with the same ticket and placements and with trays of the same lengths the first is finished (so both are, by
--- SameAnswer). Where the sources agree on the unhidden pixels near column c, row r, the output pages have the same pixel there, whatever else
--- the sources hold, and whatever stood in the output trays and the scratches. Of the ticket it is used that it is bytes, as every ticket is.
+-- THE REACH. Of two jobs with the same ticket and placements and with trays of the same lengths the first is finished
+-- (so both are, by SameAnswer). Where the sources agree on the unhidden pixels near column c, row r, the output pages
+-- have the same pixel there, whatever else the sources hold, and whatever stood in the output trays and the scratches.
+-- Of the ticket it is used that it is bytes, as every ticket is.
 abbrev pub Reach : Type 0
 Reach =
     (ticket : List ℕ) (p : Placements) (source source′ out out′ scratch scratch′ : List ℕ) (work : ℕ) → Bytes ticket

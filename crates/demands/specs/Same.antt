@@ -1,4 +1,5 @@
--- Document 01, 'What answers may depend on': "Refusals, places and work: ticket bytes, placements and the three lengths only."
+-- Document 01, 'What answers may depend on': "Refusals, places and work: ticket bytes, placements and the three lengths
+-- only."
 -- Assumes nothing.
 use mathlib.Core.Path.{_≡_}
 use mathlib.Core.List.{List}
@@ -14,7 +15,8 @@ pub record SameLengths (source source′ out out′ scratch scratch′ : List �
   pub outputs : length out ≡ length out′
   pub scratches : length scratch ≡ length scratch′
 
--- Two jobs with the same ticket and placements, and with trays of the same lengths, have the same answer, whatever the trays hold.
+-- Two jobs with the same ticket and placements, and with trays of the same lengths, have the same answer, whatever the
+-- trays hold.
 abbrev pub SameAnswer : Type 0
 SameAnswer =
     (ticket : List ℕ) (p : Placements) (source source′ out out′ scratch scratch′ : List ℕ)
@@ -26,7 +28,8 @@ abbrev pub SameNumber : Type 0
 SameNumber =
     (ticket : List ℕ) (p : Placements) (source source′ out out′ scratch scratch′ : List ℕ)
     → SameLengths source source′ out out′ scratch scratch′
-    → numberOf (answer ticket p (lengths source out scratch)) ≡ numberOf (answer ticket p (lengths source′ out′ scratch′))
+    → numberOf (answer ticket p (lengths source out scratch))
+    ≡ numberOf (answer ticket p (lengths source′ out′ scratch′))
 
 -- and its place
 abbrev pub SamePlace : Type 0

@@ -1,5 +1,6 @@
--- What a job leaves alone. Document 01: "A refusal also returns work 0 and leaves every byte of output and scratch unwritten." "Only these
--- first bytes may be used; they hold zero at the end of a finished job. Later scratch bytes keep their values."
+-- What a job leaves alone. Document 01: "A refusal also returns work 0 and leaves every byte of output and scratch
+-- unwritten." "Only these first bytes may be used; they hold zero at the end of a finished job. Later scratch bytes
+-- keep their values."
 -- Assumes nothing.
 use mathlib.Core.Path.{_≡_}
 use mathlib.Core.List.{List}
