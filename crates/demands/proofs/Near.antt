@@ -11,7 +11,7 @@ use Rattle.geometry.specs.Laws.{own-step, major-at-step, major-of-major, step-o
 use Rattle.geometry.specs.declared.Line.{Line}
 use Rattle.tray.specs.Laws.{down-in, across-in}
 use Rattle.filter.specs.Seen.{lineOf, runsSteep}
-use Rattle.demands.specs.Near.{majorPlace, minorPlace, Near, NearIn, NearSelf, NearStep, NearBack}
+use Rattle.demands.specs.Near.{majorPlace, minorPlace, NearIn, NearSelf, NearStep, NearBack}
 use Rattle.demands.proofs.Lines.{own-landing, in-page-landed}
 use Rattle.demands.proofs.Axes.{turned-in}
 use Rattle.demands.proofs.OnLines.{line-sound}

@@ -4,6 +4,7 @@ use mathlib.Core.Path.{_≡_, refl, sym}
 use mathlib.Core.Bool.{Bool, true, false}
 use mathlib.Core.List.{List}
 use Prim.Native.Nat.{ℕ}
+use native.Mathlib.Omega.{arith}
 use lib.ListN.{length, getD}
 use Rattle.ticket.specs.Reading.{shown}
 use Rattle.tray.specs.Placement.{scratchNeeded}
@@ -60,7 +61,7 @@ unfolding scratchAfter
 scratch-zero ticket p source out scratch work e i below =
     let needed : ℕ = scratchNeeded (p .width) (p .height) in
     rw (when-done (answer ticket p (lengths source out scratch)) work (cleared needed scratch) scratch e)
-    (cleared-below needed scratch i below)
+    (cleared-below needed scratch i (omega arith))
 
 pub refused-output : RefusedOutput
 unfolding outputAfter

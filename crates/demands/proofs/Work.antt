@@ -1,6 +1,6 @@
 -- The work is at most 3·w·h a pass: each of a pixel's three charges is at most one.
 -- Assumes nothing.
-use mathlib.Core.Path.{_≡_, refl, ap, _∙_}
+use mathlib.Core.Path.{_≡_, refl, ap}
 use mathlib.Core.Bool.{Bool, true, false, _||_, cond}
 use mathlib.Core.Logic.{inl, inr}
 use Prim.Native.Nat.{ℕ, zero, suc, _+_, _-_, _*_, _/_, _%_, _≤_, min}
@@ -8,7 +8,6 @@ use native.Mathlib.Nat.{mul-comm}
 use native.Mathlib.Omega.{arith}
 use lib.Dec.{eqb}
 use Rattle.geometry.specs.Number.{behind, ahead}
-use Rattle.geometry.specs.declared.Line.{Line}
 use Rattle.runs.specs.Block.{rightward, leftward, resulting}
 use Rattle.runs.specs.Scratch.{total}
 use Rattle.ticket.specs.Reading.{shown}
