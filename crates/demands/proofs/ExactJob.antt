@@ -13,6 +13,7 @@ use Rattle.filter.specs.Job.{Lengths, sourcePage, outputPage, answer, lengths, 
 use Rattle.answer.specs.declared.Answer.the-variants.{Done}
 use Rattle.filter.specs.declared.Placements.{Placements}
 use Rattle.demands.specs.Exact.{ExactJobReach}
+use Rattle.demands.proofs.Same.{same-lengths}
 use Rattle.demands.proofs.Finishing.{finished-job, output-pixel}
 use Rattle.demands.proofs.Exact.{exact-reach}
 
@@ -25,7 +26,7 @@ module _ (ticket : List ℕ) (p : Placements) (n : Lengths) (work c r : ℕ) (do
       ≡ finished (shown ticket) (sourcePage p) source c r
   output-at source out scratch s o x =
       let also : answer ticket p (lengths source out scratch) ≡ Done work =
-      ap (answer ticket p) (λ i. record { source = s i; output = o i; scratch = x i }) ∙ done in
+      ap (answer ticket p) (same-lengths (lengths source out scratch) n s o x) ∙ done in
       output-pixel ticket p source out scratch work also c r c-in r-in
 
 pub exact-job-reach : ExactJobReach
