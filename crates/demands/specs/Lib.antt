@@ -1,14 +1,8 @@
+-- The statements, each with the sentence it renders; proofs/Demands.antt names the proof of each.
 pub mod Same
 pub mod Untouched
 pub mod Near
 pub mod Reach
-pub mod NearLaws
-pub mod ReachProof
-pub mod Finishing
 pub mod Exact
-pub mod ExactNumbers
-pub mod ExactLines
-pub mod ExactTrays
-pub mod ExactProof
-pub mod ExactJob
-pub mod ExactWorked
+pub mod Work
+pub mod Demands

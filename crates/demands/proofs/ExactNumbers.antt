@@ -1,5 +1,5 @@
--- Two passes over numbers that are 0 or 1: a run of one value on a line of the other comes through if it is as long as the window, and is
--- wiped out where one of its numbers is changed.
+-- Two passes over numbers that are 0 or 1: a run of one value on a line of the other comes through if it is as long as
+-- the window, and is wiped out where one of its numbers is changed.
 -- Assumes nothing.
 use mathlib.Core.Path.{_≡_, refl, ap, ap₂, _∙_}
 use mathlib.Core.Bool.{Bool, true, false, not, _&&_, cond}
@@ -80,7 +80,8 @@ module _ (low : Bool) (f : ℕ → ℕ) where
 unfoldable pub twice : Bool → ℕ → ℕ → (ℕ → ℕ) → ℕ → ℕ
 twice low a b f x = best (not low) (λ (y : ℕ). best low f (y - a) (a + b)) (x - b) (a + b)
 
-module _ (low : Bool) (a b x q : ℕ) (f : ℕ → ℕ) (small : (k : ℕ) → f k ≤ 1) (room : a + b ≤ x) (from : q ≤ x) (to : x ≤ q + (a + b)) where
+module _ (low : Bool) (a b x q : ℕ) (f : ℕ → ℕ) (small : (k : ℕ) → f k ≤ 1) (room : a + b ≤ x) (from : q ≤ x)
+    (to : x ≤ q + (a + b)) where
   -- a run of a + b + 1 losers from q on, and x is one of them
   pub run-stays : ((k : ℕ) → q ≤ k → k ≤ q + (a + b) → f k ≡ winner (not low)) → twice low a b f x ≡ winner (not low)
   unfolding twice
@@ -104,7 +105,8 @@ module _ (low : Bool) (a b x q : ℕ) (f : ℕ → ℕ) (small : (k : ℕ) → f
           (λ l. best-wins low f (y - a) (y - a) (a + b) small (omega arith) (omega arith) (before (y - a) l))
           (λ l.
           by-cases (decLt q (y - a))
-          (λ g. best-wins low f (y - a + (a + b)) (y - a) (a + b) small (omega arith) (omega arith) (behind (y - a + (a + b)) (omega arith)))
+          (λ g. best-wins low f (y - a + (a + b)) (y - a) (a + b) small (omega arith) (omega arith)
+          (behind (y - a + (a + b)) (omega arith)))
           (λ g.
           let same : q ≡ y - a = omega arith in
           best-wins low f s (y - a) (a + b) small (omega arith) (omega arith) at))
@@ -124,9 +126,13 @@ picked-small false x y h k = k
 module _ (low : Bool) (q n : ℕ) where
   pub run-small : (k : ℕ) → run low q n k ≤ 1
   unfolding run
-  run-small k = picked-small (leb q k && leb k (q + n)) (winner (not low)) (winner low) (winner-small (not low)) (winner-small low)
+  run-small k =
+      picked-small (leb q k && leb k (q + n)) (winner (not low)) (winner low) (winner-small (not low))
+      (winner-small low)
 
-  run-by : (one two : Bool) (k : ℕ) → leb q k ≡ one → leb k (q + n) ≡ two → run low q n k ≡ cond (one && two) (winner (not low)) (winner low)
+  run-by :
+      (one two : Bool) (k : ℕ) → leb q k ≡ one → leb k (q + n) ≡ two
+      → run low q n k ≡ cond (one && two) (winner (not low)) (winner low)
   unfolding run
   run-by one two k h i = ap₂ (λ (one two : Bool). cond (one && two) (winner (not low)) (winner low)) h i
 
@@ -153,7 +159,9 @@ module _ (low : Bool) (q n : ℕ) where
     changed-small k = picked-small (eqb k s) (winner low) (run low q n k) (winner-small low) (run-small k)
 
 -- x and s are two of the run: the two passes tell it from the changed one
-pub twice-run : (low : Bool) (a b x q : ℕ) → a + b ≤ x → q ≤ x → x ≤ q + (a + b) → twice low a b (run low q (a + b)) x ≡ winner (not low)
+pub twice-run :
+    (low : Bool) (a b x q : ℕ) → a + b ≤ x → q ≤ x → x ≤ q + (a + b)
+    → twice low a b (run low q (a + b)) x ≡ winner (not low)
 twice-run low a b x q room from to =
     run-stays low a b x q (run low q (a + b)) (run-small low q (a + b)) room from to (run-in low q (a + b))
 
@@ -161,6 +169,7 @@ pub twice-changed :
     (low : Bool) (a b x q s : ℕ) → a + b ≤ x → q ≤ x → x ≤ q + (a + b) → q ≤ s → s ≤ q + (a + b)
     → twice low a b (changed low q (a + b) s) x ≡ winner low
 twice-changed low a b x q s room from to s-from s-to =
-    run-goes low a b x q (changed low q (a + b) s) (changed-small low q (a + b) s) room from to s s-from s-to (changed-at low q (a + b) s)
+    run-goes low a b x q (changed low q (a + b) s) (changed-small low q (a + b) s) room from to s s-from s-to
+    (changed-at low q (a + b) s)
     (λ k h. changed-else low q (a + b) s k (λ e. omega arith) ∙ run-before low q (a + b) k h)
     (λ k h. changed-else low q (a + b) s k (λ e. omega arith) ∙ run-behind low q (a + b) k h)

@@ -1,4 +1,4 @@
--- Two passes at a pixel whose line is there for as far as they look: they are the two passes over the numbers of its line.
+-- Two passes at a pixel whose line is there for as far as they look are the two passes over the numbers of its line.
 -- Assumes nothing.
 use mathlib.Core.Path.{_≡_, refl, sym, ap, ap₂, _∙_}
 use mathlib.Core.Bool.{Bool, not, cond}
@@ -9,12 +9,13 @@ use native.Mathlib.Omega.{arith}
 use borrow.Author.Tests.{le-leb}
 use lib.Dec.{leb}
 use Rattle.geometry.specs.Line.{landing, stepOf, majorAt}
-use Rattle.geometry.specs.Drift.{Sound, falls, mirrored}
-use Rattle.geometry.specs.Laws.{lands, own-step, major-at-step, step-of-major, major-of-major, landing-onward, mirrored-twice}
+use Rattle.geometry.specs.Drift.{Sound}
+use Rattle.geometry.specs.Laws.{step-of-major}
 use Rattle.geometry.specs.declared.Line.{Line}
 use Rattle.runs.specs.Span.{best}
 use Rattle.filter.specs.Filters.{View, joined, extreme, valueAt, onLine, inWindow, passAt, pass}
-use Rattle.demands.specs.ExactNumbers.{twice}
+use Rattle.demands.proofs.OnLines.{own-value, same-line}
+use Rattle.demands.proofs.ExactNumbers.{twice}
 
 -- where all values are there, the extreme is the best of their numbers
 extreme-is :
@@ -22,7 +23,8 @@ extreme-is :
     → extreme low value k (suc n) ≡ some (best low f i n)
 unfolding extreme best joined
 extreme-is low value f k i zero same =
-    ap (λ (o : Option ℕ). joined low o none) (ap value (sym (add-zero k)) ∙ same 0 (omega arith) ∙ ap (λ (j : ℕ). some (f j)) (add-zero i))
+    ap (λ (o : Option ℕ). joined low o none)
+    (ap value (sym (add-zero k)) ∙ same 0 (omega arith) ∙ ap (λ (j : ℕ). some (f j)) (add-zero i))
 extreme-is low value f k i (suc n) same =
     ap₂ (joined low) (ap value (sym (add-zero k)) ∙ same 0 (omega arith) ∙ ap (λ (j : ℕ). some (f j)) (add-zero i))
     (extreme-is low value f (suc k) (suc i) n
@@ -38,35 +40,14 @@ place-of page M v none e = absurd (Option·none-ne-some v e)
 place-of page M v (some m) e = (m, refl)
 
 module _ (l : Line) (sound : Sound l) (M m : ℕ) where
-  -- a line lands at its own place
-  own-landing : landing l m (stepOf l M) (stepOf l M) ≡ some m
-  own-landing =
-      let found = lands l sound (suc M) (suc m) M m (stepOf l M) (omega arith) (own-step l sound (suc M) (suc m) M m (omega arith) (omega arith)) in
-      let level : mirrored (falls l) (suc m) (found .at) ≡ mirrored (falls l) (suc m) m = omega (arith, found .moved) in
-      let same : found .at ≡ m =
-      sym (mirrored-twice (falls l) (suc m) (found .at) (found .fits))
-      ∙ ap (mirrored (falls l) (suc m)) level
-      ∙ mirrored-twice (falls l) (suc m) m (omega arith) in
-      found .lands ∙ ap {B = Option ℕ} some same
-
-  on-own : (page : View) → onLine l page M m (stepOf l M) ≡ page M m
-  unfolding onLine valueAt
-  on-own page = ap₂ (valueAt page) (major-at-step l sound M) own-landing
-
   module _ (page : View) (y m′ : ℕ) (there : landing l m (stepOf l M) y ≡ some m′) where
-    -- a pixel of the line has the same line
-    onward : (s : ℕ) → onLine l page (majorAt l M y) m′ s ≡ onLine l page M m s
-    unfolding onLine
-    onward s =
-        ap₂ (valueAt page) (major-of-major l sound M y s)
-        (ap (λ (t : ℕ). landing l m′ t s) (step-of-major l sound M y) ∙ landing-onward l m (stepOf l M) y s m′ there)
-
     window-onward : (a k : ℕ) → a ≤ y + k → inWindow l page a (majorAt l M y) m′ k ≡ onLine l page M m (y + k - a)
     unfolding inWindow
     window-onward a k h =
-        ap (λ (t : ℕ). cond (leb a (t + k)) (onLine l page (majorAt l M y) m′ (t + k - a)) none) (step-of-major l sound M y)
+        ap (λ (t : ℕ). cond (leb a (t + k)) (onLine l page (majorAt l M y) m′ (t + k - a)) none)
+        (step-of-major l sound M y)
         ∙ ap (λ (b : Bool). cond b (onLine l page (majorAt l M y) m′ (y + k - a)) none) (le-leb a (y + k) h)
-        ∙ onward (y + k - a)
+        ∙ same-line l sound page M m y m′ (y + k - a) there
 
   -- one pass
   pass-on :
@@ -77,7 +58,8 @@ module _ (l : Line) (sound : Sound l) (M m : ℕ) where
   pass-on low a n page f y v on room same =
       let found = place-of page (majorAt l M y) v (landing l m (stepOf l M) y) on in
       ap (valueAt (pass low l a (suc n) page) (majorAt l M y)) (found .1)
-      ∙ ap (passAt low l a (suc n) page (majorAt l M y) (found .0)) (sym (ap (valueAt page (majorAt l M y)) (found .1)) ∙ on)
+      ∙ ap (passAt low l a (suc n) page (majorAt l M y) (found .0))
+      (sym (ap (valueAt page (majorAt l M y)) (found .1)) ∙ on)
       ∙ extreme-is low (inWindow l page a (majorAt l M y) (found .0)) f 0 (y - a) n
       (λ q h.
       ap (inWindow l page a (majorAt l M y) (found .0)) (zero-add q)
@@ -88,7 +70,8 @@ module _ (l : Line) (sound : Sound l) (M m : ℕ) where
       shifted : (q : ℕ) → y + q - a ≡ y - a + q
       shifted q = omega arith
 
-  module _ (low : Bool) (a b : ℕ) (page : View) (f : ℕ → ℕ) (room : a + b ≤ stepOf l M) (near : (s : ℕ) → stepOf l M ≤ s + (a + b) → s ≤ stepOf l M + (a + b) → onLine l page M m s ≡ some (f s)) where
+  module _ (low : Bool) (a b : ℕ) (page : View) (f : ℕ → ℕ) (room : a + b ≤ stepOf l M)
+      (near : (s : ℕ) → stepOf l M ≤ s + (a + b) → s ≤ stepOf l M + (a + b) → onLine l page M m s ≡ some (f s)) where
     first-on :
         (y : ℕ) → stepOf l M ≤ y + b → y ≤ stepOf l M + a
         → onLine l (pass low l a (suc (a + b)) page) M m y ≡ some (best low f (y - a) (a + b))
@@ -96,11 +79,13 @@ module _ (l : Line) (sound : Sound l) (M m : ℕ) where
         pass-on low a (a + b) page f y (f y) (near y (omega arith) (omega arith)) (omega arith)
         (λ q i. near (y - a + q) (omega arith) (omega arith))
 
-    pub twice-on : pass (not low) l b (suc (a + b)) (pass low l a (suc (a + b)) page) M m ≡ some (twice low a b f (stepOf l M))
+    pub twice-on :
+        pass (not low) l b (suc (a + b)) (pass low l a (suc (a + b)) page) M m ≡ some (twice low a b f (stepOf l M))
     unfolding twice
     twice-on =
-        sym (on-own (pass (not low) l b (suc (a + b)) (pass low l a (suc (a + b)) page)))
-        ∙ pass-on (not low) b (a + b) (pass low l a (suc (a + b)) page) (λ (y : ℕ). best low f (y - a) (a + b)) (stepOf l M)
+        sym (own-value l sound (pass (not low) l b (suc (a + b)) (pass low l a (suc (a + b)) page)) M m)
+        ∙ pass-on (not low) b (a + b) (pass low l a (suc (a + b)) page) (λ (y : ℕ). best low f (y - a) (a + b))
+        (stepOf l M)
         (best low f (stepOf l M - a) (a + b))
         (first-on (stepOf l M) (omega arith) (omega arith))
         (omega arith)

@@ -1,0 +1,44 @@
+-- The proof of every statement of specs/: it is found in the file that its `use` line names.
+-- Assumes nothing.
+use Rattle.demands.specs.Demands.{Demands}
+use Rattle.demands.proofs.Same as same
+use Rattle.demands.proofs.Untouched as untouched
+use Rattle.demands.proofs.Work as work
+use Rattle.demands.proofs.Near as near
+use Rattle.demands.proofs.Reach as reaching
+use Rattle.demands.proofs.ExactTrays as trays
+use Rattle.demands.proofs.Exact as exact
+use Rattle.demands.proofs.ExactJob as job
+
+pub demands : Demands
+demands =
+    record {
+      output-kept = untouched.output-kept;
+      output-length = untouched.output-length;
+      scratch-kept = untouched.scratch-kept;
+      scratch-length = untouched.scratch-length;
+      scratch-zero = untouched.scratch-zero;
+      refused-output = untouched.refused-output;
+      refused-scratch = untouched.refused-scratch;
+      refused-work = untouched.refused-work;
+      pass-work = work.pass-work;
+      one-pass-work = work.one-pass-work;
+      two-pass-work = work.two-pass-work;
+      finished-work = work.finished-work;
+      finished-one-pass = work.finished-one-pass;
+      finished-two-passes = work.finished-two-passes;
+      same-answer = same.same-answer;
+      same-number = same.same-number;
+      same-place = same.same-place;
+      same-work = same.same-work;
+      near-in = near.near-in;
+      near-self = near.near-self;
+      near-step = near.near-step;
+      near-back = near.near-back;
+      reach = reaching.reach;
+      page-alone = reaching.page-alone;
+      hidden-white = reaching.hidden-white;
+      clear-steps = trays.clear-steps;
+      exact-reach = exact.exact-reach;
+      exact-job-reach = job.exact-job-reach;
+    }

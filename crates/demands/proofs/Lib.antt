@@ -1,0 +1,22 @@
+-- The proofs of the statements in specs/. Demands names the proof of each.
+pub mod Demands
+-- laws of lines and of the two axes
+mod Lines
+mod Axes
+mod OnLines
+mod Near
+-- the answer, the trays and the work
+mod Finishing
+mod Same
+mod Untouched
+mod Work
+-- the reach
+mod Windows
+mod Reach
+-- the exact reach
+mod ExactNumbers
+mod ExactLines
+mod ExactTrays
+mod Exact
+mod ExactJob
+mod ExactWorked

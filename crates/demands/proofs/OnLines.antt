@@ -1,0 +1,33 @@
+-- The values that a page has along a line.
+-- Assumes nothing.
+use mathlib.Core.Path.{_≡_, ap, ap₂, _∙_}
+use mathlib.Core.Option.{some}
+use Prim.Native.Nat.{ℕ}
+use Rattle.geometry.specs.Line.{landing, stepOf, majorAt}
+use Rattle.geometry.specs.Drift.{Sound}
+use Rattle.geometry.specs.Laws.{major-at-step, major-of-major, step-of-major, landing-onward, sound}
+use Rattle.geometry.specs.declared.Line.{Line}
+use Rattle.ticket.specs.Laws.{Allowed}
+use Rattle.ticket.specs.declared.Ticket.{Ticket}
+use Rattle.filter.specs.Seen.{lineOf}
+use Rattle.filter.specs.Filters.{View, valueAt, onLine}
+use Rattle.demands.proofs.Lines.{own-landing}
+
+-- the line of a ticket that was read
+pub line-sound : (t : Ticket) → Allowed t → Sound (lineOf t)
+unfolding lineOf
+line-sound t ok = sound (lineOf t) (ok .runs)
+
+module _ (l : Line) (ok : Sound l) (page : View) (M m : ℕ) where
+  -- the line has the pixel itself at the pixel's step
+  pub own-value : onLine l page M m (stepOf l M) ≡ page M m
+  unfolding onLine valueAt
+  own-value = ap₂ (valueAt page) (major-at-step l ok M) (own-landing l ok M m)
+
+  -- the line through another of its pixels is the same line
+  pub same-line :
+      (s m′ r : ℕ) → landing l m (stepOf l M) s ≡ some m′ → onLine l page (majorAt l M s) m′ r ≡ onLine l page M m r
+  unfolding onLine
+  same-line s m′ r there =
+      ap₂ (valueAt page) (major-of-major l ok M s r)
+      (ap (λ (q : ℕ). landing l m′ q r) (step-of-major l ok M s) ∙ landing-onward l m (stepOf l M) s r m′ there)

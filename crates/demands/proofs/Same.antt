@@ -1,0 +1,28 @@
+-- The answer takes lengths alone, so equal lengths give equal answers.
+-- Assumes nothing.
+use mathlib.Core.Path.{_≡_, ap}
+use Rattle.answer.specs.Answer.{numberOf, placeOf, workIn}
+use Rattle.filter.specs.Job.{Lengths, answer, lengths}
+use Rattle.demands.specs.Same.{SameAnswer, SameNumber, SamePlace, SameWork}
+
+pub same-lengths :
+    (n n′ : Lengths) → n .source ≡ n′ .source → n .output ≡ n′ .output → n .scratch ≡ n′ .scratch → n ≡ n′
+same-lengths n n′ source output scratch = λ i. record { source = source i; output = output i; scratch = scratch i }
+
+pub same-answer : SameAnswer
+same-answer ticket p source source′ out out′ scratch scratch′ same =
+    ap (answer ticket p)
+    (same-lengths (lengths source out scratch) (lengths source′ out′ scratch′) (same .sources) (same .outputs)
+    (same .scratches))
+
+pub same-number : SameNumber
+same-number ticket p source source′ out out′ scratch scratch′ same =
+    ap numberOf (same-answer ticket p source source′ out out′ scratch scratch′ same)
+
+pub same-place : SamePlace
+same-place ticket p source source′ out out′ scratch scratch′ same =
+    ap placeOf (same-answer ticket p source source′ out out′ scratch scratch′ same)
+
+pub same-work : SameWork
+same-work ticket p source source′ out out′ scratch scratch′ same =
+    ap workIn (same-answer ticket p source source′ out out′ scratch scratch′ same)

@@ -1,0 +1,161 @@
+-- What a filter's windows reach: a pass looks at its window only, and two windows end to end reach L - 1 steps each way.
+-- Assumes nothing.
+use mathlib.Core.Path.{_≡_, refl, sym, ap, ap₂, _∙_}
+use mathlib.Core.Bool.{Bool, true, false, cond}
+use mathlib.Core.Option.{Option, none, some}
+use Prim.Native.Nat.{ℕ, zero, suc, _+_, _-_, _≤_, _<_}
+use native.Mathlib.Omega.{arith}
+use borrow.Author.Tests.{leb-true}
+use lib.Dec.{leb, eqb}
+use Rattle.geometry.specs.Line.{landing, stepOf, majorAt}
+use Rattle.geometry.specs.Drift.{Sound}
+use Rattle.geometry.specs.Laws.{step-of-major}
+use Rattle.geometry.specs.declared.Line.{Line}
+use Rattle.ticket.specs.Laws.{Allowed}
+use Rattle.ticket.specs.declared.Ticket.{Ticket}
+use Rattle.filter.specs.Seen.{lineOf}
+use Rattle.filter.specs.Filters.{View, joined, extreme, valueAt, onLine, inWindow, passAt, pass, eroded, dilationBack}
+use Rattle.filter.specs.Filters.{dilated, opened, closed, filtered}
+use Rattle.demands.proofs.OnLines.{line-sound, own-value, same-line}
+
+-- ---- one pass
+
+extreme-same :
+    (low : Bool) (value value′ : ℕ → Option ℕ) (k n : ℕ) → ((q : ℕ) → k ≤ q → q < k + n → value q ≡ value′ q)
+    → extreme low value k n ≡ extreme low value′ k n
+unfolding extreme
+extreme-same low value value′ k zero same = refl
+extreme-same low value value′ k (suc n) same =
+    ap₂ (joined low) (same k (omega arith) (omega arith))
+    (extreme-same low value value′ (suc k) n (λ q h b. same q (omega arith) (omega arith)))
+
+module _ (l : Line) (ok : Sound l) where
+  -- two pages that agree on a window's steps, from a steps back to L - 1 - a on
+  module _ (page page′ : View) (a L M m : ℕ)
+      (same :
+      (s : ℕ) → stepOf l M ≤ s + a → s + a < stepOf l M + L → onLine l page M m s ≡ onLine l page′ M m s) where
+    by-edge :
+        (k : ℕ) (b : Bool) → leb a (stepOf l M + k) ≡ b → k < L
+        → cond b (onLine l page M m (stepOf l M + k - a)) none ≡ cond b (onLine l page′ M m (stepOf l M + k - a)) none
+    by-edge k true e h =
+        let far : a ≤ stepOf l M + k = leb-true _ _ e in
+        same (stepOf l M + k - a) (omega arith) (omega arith)
+    by-edge k false e h = refl
+
+    window-same : (k : ℕ) → k < L → inWindow l page a M m k ≡ inWindow l page′ a M m k
+    unfolding inWindow
+    window-same k h = by-edge k _ refl h
+
+    by-value : (low : Bool) (o : Option ℕ) → passAt low l a L page M m o ≡ passAt low l a L page′ M m o
+    unfolding passAt
+    by-value low none = refl
+    by-value low (some v) =
+        extreme-same low (inWindow l page a M m) (inWindow l page′ a M m) 0 L (λ q h b. window-same q (omega arith))
+
+    pass-same : (low : Bool) → a < L → pass low l a L page M m ≡ pass low l a L page′ M m
+    unfolding pass
+    pass-same low short =
+        let own : page M m ≡ page′ M m =
+        sym (own-value l ok page M m) ∙ same (stepOf l M) (omega arith) (omega arith) ∙ own-value l ok page′ M m in
+        ap (passAt low l a L page M m) own ∙ by-value low (page′ M m)
+
+-- ---- two passes
+
+-- s is in the window of t that begins b steps back, r in the window of s that begins a steps back, and L = a + 1 + b:
+-- r is fewer than L steps from t
+not-before : (a b L t s r : ℕ) → suc (a + b) ≡ L → t ≤ s + b → s ≤ r + a → t < r + L
+not-before a b L t s r whole h k = omega arith
+
+not-beyond : (a b L t s r : ℕ) → suc (a + b) ≡ L → s + b < t + L → r + a < s + L → r < t + L
+not-beyond a b L t s r whole h k = omega arith
+
+-- two pages that agree fewer than L steps from a pixel
+module _ (l : Line) (ok : Sound l) (L M m : ℕ) (page page′ : View)
+    (same : (s : ℕ) → stepOf l M < s + L → s < stepOf l M + L → onLine l page M m s ≡ onLine l page′ M m s) where
+  once-same : (low : Bool) (a : ℕ) → a < L → pass low l a L page M m ≡ pass low l a L page′ M m
+  once-same low a short = pass-same l ok page page′ a L M m (λ s h k. same s (omega arith) (omega arith)) low short
+
+  module _ (one two : Bool) (a b : ℕ) (whole : suc (a + b) ≡ L) where
+    first-same :
+        (s m′ : ℕ) → landing l m (stepOf l M) s ≡ some m′ → stepOf l M ≤ s + b → s + b < stepOf l M + L
+        → pass one l a L page (majorAt l M s) m′ ≡ pass one l a L page′ (majorAt l M s) m′
+    first-same s m′ there h k =
+        pass-same l ok page page′ a L (majorAt l M s) m′
+        (λ r lo hi.
+        same-line l ok page M m s m′ r there
+        ∙ same r
+        (not-before a b L (stepOf l M) s r whole h (omega (arith, step-of-major l ok M s)))
+        (not-beyond a b L (stepOf l M) s r whole k (omega (arith, step-of-major l ok M s)))
+        ∙ sym (same-line l ok page′ M m s m′ r there))
+        one (omega arith)
+
+    by-landing :
+        (s : ℕ) (o : Option ℕ) → landing l m (stepOf l M) s ≡ o → stepOf l M ≤ s + b → s + b < stepOf l M + L
+        → valueAt (pass one l a L page) (majorAt l M s) o ≡ valueAt (pass one l a L page′) (majorAt l M s) o
+    unfolding valueAt
+    by-landing s none there h k = refl
+    by-landing s (some m′) there h k = first-same s m′ there h k
+
+    line-same :
+        (s : ℕ) → stepOf l M ≤ s + b → s + b < stepOf l M + L
+        → onLine l (pass one l a L page) M m s ≡ onLine l (pass one l a L page′) M m s
+    unfolding onLine
+    line-same s h k = by-landing s (landing l m (stepOf l M) s) refl h k
+
+    twice-same : pass two l b L (pass one l a L page) M m ≡ pass two l b L (pass one l a L page′) M m
+    twice-same = pass-same l ok (pass one l a L page) (pass one l a L page′) b L M m line-same two (omega arith)
+
+-- ---- the four operations
+
+cond-same :
+    (b : Bool) (f g f′ g′ : View) (M m : ℕ) → f M m ≡ f′ M m → g M m ≡ g′ M m → cond b f g M m ≡ cond b f′ g′ M m
+cond-same true f g f′ g′ M m h k = h
+cond-same false f g f′ g′ M m h k = k
+
+module _ (t : Ticket) (ok : Allowed t) where
+  -- the two windows are end to end: L - 1 - o and o
+  whole-open : suc (t .origin + dilationBack t) ≡ t .length
+  unfolding dilationBack
+  whole-open = omega (arith, ok .origin-below)
+
+  whole-close : suc (dilationBack t + t .origin) ≡ t .length
+  whole-close = omega (arith, whole-open)
+
+  module _ (M m : ℕ) (page page′ : View)
+      (same :
+      (s : ℕ) → stepOf (lineOf t) M < s + t .length → s < stepOf (lineOf t) M + t .length
+      → onLine (lineOf t) page M m s ≡ onLine (lineOf t) page′ M m s) where
+    pub filtered-same : filtered t page M m ≡ filtered t page′ M m
+    unfolding filtered eroded dilated opened closed
+    filtered-same =
+        let l : Line = lineOf t in
+        let L : ℕ = t .length in
+        cond-same (eqb (t .operation) 1) (eroded t page) _ (eroded t page′) _ M m
+        (once-same l (line-sound t ok) L M m page page′ same true (t .origin) (omega (arith, whole-open)))
+        (cond-same (eqb (t .operation) 2) (dilated t page) _ (dilated t page′) _ M m
+        (once-same l (line-sound t ok) L M m page page′ same false (dilationBack t) (omega (arith, whole-open)))
+        (cond-same (eqb (t .operation) 3) (opened t page) (closed t page) (opened t page′) (closed t page′) M m
+        (twice-same l (line-sound t ok) L M m page page′ same true false (t .origin) (dilationBack t) whole-open)
+        (twice-same l (line-sound t ok) L M m page page′ same false true (dilationBack t) (t .origin) whole-close)))
+
+-- ---- an absent pixel stays absent
+
+pass-absent :
+    (low : Bool) (l : Line) (a n : ℕ) (page : View) (M m : ℕ) → page M m ≡ none → pass low l a n page M m ≡ none
+unfolding pass passAt
+pass-absent low l a n page M m e = ap (passAt low l a n page M m) e
+
+cond-none : (b : Bool) (f g : View) (M m : ℕ) → f M m ≡ none → g M m ≡ none → cond b f g M m ≡ none
+cond-none true f g M m h k = h
+cond-none false f g M m h k = k
+
+pub filtered-none : (t : Ticket) (page : View) (M m : ℕ) → page M m ≡ none → filtered t page M m ≡ none
+unfolding filtered eroded dilated opened closed
+filtered-none t page M m e =
+    let eroding : eroded t page M m ≡ none = pass-absent true (lineOf t) (t .origin) (t .length) page M m e in
+    let dilating : dilated t page M m ≡ none = pass-absent false (lineOf t) (dilationBack t) (t .length) page M m e in
+    cond-none (eqb (t .operation) 1) (eroded t page) _ M m eroding
+    (cond-none (eqb (t .operation) 2) (dilated t page) _ M m dilating
+    (cond-none (eqb (t .operation) 3) (opened t page) (closed t page) M m
+    (pass-absent false (lineOf t) (dilationBack t) (t .length) (eroded t page) M m eroding)
+    (pass-absent true (lineOf t) (t .origin) (t .length) (dilated t page) M m dilating)))

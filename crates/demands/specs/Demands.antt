@@ -1,0 +1,46 @@
+-- The demands that are theorems over the job's definitions: every statement of this crate, in one record.
+-- proofs/Demands.antt has its proof.
+-- Assumes nothing.
+use Rattle.demands.specs.Same.{SameAnswer, SameNumber, SamePlace, SameWork}
+use Rattle.demands.specs.Untouched.{OutputKept, OutputLength, ScratchKept, ScratchLength, ScratchZero}
+use Rattle.demands.specs.Untouched.{RefusedOutput, RefusedScratch, RefusedWork}
+use Rattle.demands.specs.Work.{PassWork, OnePassWork, TwoPassWork, FinishedWork, FinishedOnePass}
+use Rattle.demands.specs.Work.{FinishedTwoPasses}
+use Rattle.demands.specs.Near.{NearIn, NearSelf, NearStep, NearBack}
+use Rattle.demands.specs.Reach.{Reach, PageAlone, HiddenWhite}
+use Rattle.demands.specs.Exact.{ClearSteps, ExactReach, ExactJobReach}
+
+pub record Demands : Type 0 where
+  -- 1. a refused job writes nothing; a finished one writes only its page and leaves the scratch it used at zero
+  pub output-kept : OutputKept
+  pub output-length : OutputLength
+  pub scratch-kept : ScratchKept
+  pub scratch-length : ScratchLength
+  pub scratch-zero : ScratchZero
+  pub refused-output : RefusedOutput
+  pub refused-scratch : RefusedScratch
+  pub refused-work : RefusedWork
+  -- 2. the work is at most three comparisons a pixel and pass
+  pub pass-work : PassWork
+  pub one-pass-work : OnePassWork
+  pub two-pass-work : TwoPassWork
+  pub finished-work : FinishedWork
+  pub finished-one-pass : FinishedOnePass
+  pub finished-two-passes : FinishedTwoPasses
+  -- 3. two jobs with the same ticket, placements and lengths have the same answer
+  pub same-answer : SameAnswer
+  pub same-number : SameNumber
+  pub same-place : SamePlace
+  pub same-work : SameWork
+  -- 3. a pixel depends only on unhidden pixels of its own line fewer than L steps away
+  pub near-in : NearIn
+  pub near-self : NearSelf
+  pub near-step : NearStep
+  pub near-back : NearBack
+  pub reach : Reach
+  pub page-alone : PageAlone
+  pub hidden-white : HiddenWhite
+  -- 3. for operations 3 and 4 that reach is exact
+  pub clear-steps : ClearSteps
+  pub exact-reach : ExactReach
+  pub exact-job-reach : ExactJobReach
