@@ -1,4 +1,4 @@
-//! The library through the wrapper: the worked cases of an opening, and each of the fourteen refusals.
+//! The library through the wrapper: the worked cases of an opening, and each refusal of a job.
 
 use sotrugla::{filter, HiddenBox, Line, Operation, Page, Refusal, Spot, Ticket, TicketBytes};
 
