@@ -4,7 +4,9 @@ use crate::library::Outcome;
 use std::error::Error;
 use std::fmt;
 
-/// Why a job is refused; the value is the refusal's number.
+/// Why a job is refused; the value is the refusal's number. 1 to 25 are kept for the law's refusals, of
+/// which later versions may know more: so a `match` needs an arm for those it does not name.
+#[non_exhaustive]
 #[derive(Clone, Copy, Debug, PartialEq, Eq)]
 pub enum Refusal {
     TicketEnds = 1,

@@ -94,6 +94,23 @@ fn each_page_refusal_has_its_place() {
     assert_eq!(refused(&past, page, [3, 3, 15]), (Refusal::BadBox, 1));
 }
 
+/// That this compiles is the test: the last arm can be reached, as more refusals may come.
+#[deny(unreachable_patterns)]
+fn is_of_today(refusal: Refusal) -> bool {
+    use Refusal::*;
+    match refusal {
+        TicketEnds | WrongTag | WrongLength | Unknown | TooManyBoxes => true,
+        BadVector | BadLength | BadOrigin | BadPhase | BadSides => true,
+        SourceTooShort | OutputTooShort | ScratchTooShort | BadBox | NumbersTooFew => true,
+        _ => false,
+    }
+}
+
+#[test]
+fn a_match_leaves_room_for_later_refusals() {
+    assert!(is_of_today(Refusal::NumbersTooFew));
+}
+
 #[test]
 fn a_ticket_reads_back_as_it_was_built() {
     let full = (0..64)
