@@ -68,7 +68,7 @@ fn backward_band(
 }
 
 // The backward sweep, up the rows: page B becomes the running extremes to the blocks' ends of page A.
-pub fn backward(
+fn backward(
     g: Grid,
     profile: &[usize],
     reaches: &[usize],
@@ -143,7 +143,7 @@ fn lag_of(g: Grid) -> usize
 
 // The forward sweep, and close behind it the results, while the rows they read are still in the cache: page A becomes the extremes over the
 // windows.
-pub fn forward(
+fn forward(
     g: Grid,
     profile: &[usize],
     reaches: &[usize],
