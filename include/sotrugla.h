@@ -29,11 +29,13 @@ extern "C" {
 
 /* An answer. refusal is 0 for a finished page, else the refusal's number, and place says where: the
  * ticket's byte where the field at fault starts (refusals 1 to 9), the number of the box from 0 (14),
- * else 0. work is the count of comparisons; a refusal has 0. */
+ * the numbers needed (100), else 0. work is the count of comparisons; a refusal has 0. */
 struct sotrugla_outcome {
     uint64_t refusal, place, work;
 };
 
+/* 1 to 25 are kept for the law's refusals, of which later versions may know more. 100 is the answer to
+ * every call that is handed a buffer of numbers too short; nothing is written then. */
 enum {
     SOTRUGLA_TICKET_ENDS = 1,
     SOTRUGLA_WRONG_TAG = 2,
@@ -49,7 +51,7 @@ enum {
     SOTRUGLA_OUTPUT_TOO_SHORT = 12,
     SOTRUGLA_SCRATCH_TOO_SHORT = 13,
     SOTRUGLA_BAD_BOX = 14,
-    SOTRUGLA_NUMBERS_TOO_FEW = 15 /* of sotrugla_read_ticket alone */
+    SOTRUGLA_NUMBERS_TOO_FEW = 100
 };
 
 /* Filters one page of the source tray into the output tray.
@@ -85,7 +87,7 @@ enum { SOTRUGLA_NUMBERS = sizeof(struct sotrugla_ticket) / sizeof(int64_t) };
 
 /* Reads a ticket alone into the first SOTRUGLA_NUMBERS numbers of a buffer, in the order of struct
  * sotrugla_ticket; later numbers keep their values. The refusal is 0 or 1 to 9; at a refusal all the
- * numbers are 0. The work is 0. A buffer of fewer numbers is answered 15, its place the numbers needed,
+ * numbers are 0. The work is 0. A buffer of fewer numbers is answered 100, its place the numbers needed,
  * and is not written, whatever the ticket. Boxes are not held to a page: that is for the job to do. */
 struct sotrugla_outcome sotrugla_read_ticket(const uint8_t *ticket, size_t ticket_length,
                                              int64_t *numbers, size_t numbers_length);
@@ -144,8 +146,9 @@ static inline const char *sotrugla_sentence(uint64_t refusal)
         "the output page does not fit its tray",
         "the scratch is too short",
         "a hidden box has a zero side or passes the page's edge",
-        "the buffer has too few numbers for a ticket",
     };
+    if (refusal == SOTRUGLA_NUMBERS_TOO_FEW)
+        return "the buffer of numbers is too short";
     return refusal < sizeof sentences / sizeof *sentences ? sentences[refusal] : "unknown refusal";
 }
 

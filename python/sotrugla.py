@@ -27,7 +27,7 @@ import typing
 ERODE, DILATE, OPEN, CLOSE = 1, 2, 3, 4
 CONNECTED, PERIODIC = 1, 2
 
-# By the refusals' numbers.
+# By the refusals' numbers: 1 to 25 are kept for the law's, 100 is the library's own.
 SENTENCES = {
     1: "the ticket ends inside a field, or before one of its first six fields",
     2: "a field has another tag than the one due",
@@ -43,12 +43,13 @@ SENTENCES = {
     12: "the output page does not fit its tray",
     13: "the scratch is too short",
     14: "a hidden box has a zero side or passes the page's edge",
+    100: "the buffer of numbers is too short",
 }
 
 
 class Refused(Exception):
     """A refused job: its number, and its place: the ticket's byte where the field at fault starts (1 to 9), the
-    number of the box from 0 (14), else 0. Nothing was written."""
+    number of the box from 0 (14), the numbers needed (100), else 0. Nothing was written."""
 
     def __init__(self, refusal, place):
         self.refusal, self.place, self.sentence = refusal, place, SENTENCES[refusal]
@@ -57,6 +58,8 @@ class Refused(Exception):
             where = f" (the field at byte {place} of the ticket)"
         if refusal == 14:
             where = f" (box {place}, counted from 0)"
+        if refusal == 100:
+            where = f" (it needs {place} numbers)"
         super().__init__(f"refused {refusal} at {place}: {self.sentence}{where}")
 
 

@@ -117,7 +117,7 @@ class Tickets(unittest.TestCase):
     def test_numbers_past_the_ticket(self):
         """The exported function itself, on buffers one short, just long enough and longer."""
         encoded = ticket().encode()
-        for length, outcome in ((263, (15, 264, 0)), (264, (0, 0, 0)), (266, (0, 0, 0))):
+        for length, outcome in ((263, (100, 264, 0)), (264, (0, 0, 0)), (266, (0, 0, 0))):
             numbers = (ctypes.c_int64 * length)(*[7] * length)
             found = sotrugla._library.sotrugla_read_ticket(encoded, len(encoded), numbers, length)
             self.assertEqual((found.refusal, found.place, found.work), outcome)
@@ -167,6 +167,10 @@ class Refusals(unittest.TestCase):
     def test_sentence_with_place(self):
         with self.assertRaisesRegex(Refused, r"^refused 7 at 15: .* \(the field at byte 15 of the ticket\)$"):
             sotrugla.run(ticket(length=0), ALONE, ROW, SPOT, bytearray(3))
+
+    def test_short_buffer_of_numbers(self):
+        short = "refused 100 at 264: the buffer of numbers is too short (it needs 264 numbers)"
+        self.assertEqual(str(Refused(100, 264)), short)
 
     def test_sentences_are_those_of_c_and_rust(self):
         for file in ("include/sotrugla.h", "host/src/refusal.rs"):

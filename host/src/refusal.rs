@@ -1,10 +1,12 @@
-//! The fourteen refusals, each with a sentence for an operator.
+//! The refusals, each with a sentence for an operator.
 
 use crate::library::Outcome;
 use std::error::Error;
 use std::fmt;
 
-/// Why a job is refused; the value is the refusal's number.
+/// Why a job is refused; the value is the refusal's number. 1 to 25 are kept for the law's refusals, of
+/// which later versions may know more: so a `match` needs an arm for those it does not name.
+#[non_exhaustive]
 #[derive(Clone, Copy, Debug, PartialEq, Eq)]
 pub enum Refusal {
     TicketEnds = 1,
@@ -21,12 +23,13 @@ pub enum Refusal {
     OutputTooShort = 12,
     ScratchTooShort = 13,
     BadBox = 14,
+    NumbersTooFew = 100,
 }
 
 use Refusal::*;
 
-/// In the order of their numbers, which start at 1.
-const SENTENCES: [(Refusal, &str); 14] = [
+/// All of them, in the order of their numbers.
+const SENTENCES: [(Refusal, &str); 15] = [
     (TicketEnds, "the ticket ends inside a field, or before one of its first six fields"),
     (WrongTag, "a field has another tag than the one due"),
     (WrongLength, "a field has the wrong length"),
@@ -41,7 +44,13 @@ const SENTENCES: [(Refusal, &str); 14] = [
     (OutputTooShort, "the output page does not fit its tray"),
     (ScratchTooShort, "the scratch is too short"),
     (BadBox, "a hidden box has a zero side or passes the page's edge"),
+    (NumbersTooFew, "the buffer of numbers is too short"),
 ];
+
+/// The refusal of a number, with its sentence.
+fn numbered(number: u64) -> Option<(Refusal, &'static str)> {
+    SENTENCES.into_iter().find(|(refusal, _)| refusal.number() == number)
+}
 
 impl Refusal {
     pub fn number(self) -> u64 {
@@ -50,12 +59,12 @@ impl Refusal {
 
     /// The refusal in a sentence for an operator.
     pub fn sentence(self) -> &'static str {
-        SENTENCES[self as usize - 1].1
+        numbered(self.number()).expect("every refusal has a sentence").1
     }
 }
 
 /// A refused job. The place is the ticket's byte where the field at fault starts (refusals 1 to 9),
-/// the number of the box from 0 (14), else 0.
+/// the number of the box from 0 (14), the numbers needed (100), else 0.
 #[derive(Clone, Copy, Debug, PartialEq, Eq)]
 pub struct Refused {
     pub refusal: Refusal,
@@ -74,6 +83,7 @@ impl fmt::Display for Refused {
         match self.refusal.number() {
             1..=9 => write!(f, " (the field at byte {} of the ticket)", self.place),
             14 => write!(f, " (box {}, counted from 0)", self.place),
+            100 => write!(f, " (it needs {} numbers)", self.place),
             _ => Ok(()),
         }
     }
@@ -83,10 +93,11 @@ impl Error for Refused {}
 
 /// The work of a finished page, or the refusal.
 pub fn judged(outcome: Outcome) -> Result<u64, Refused> {
-    match outcome.refusal {
-        0 => Ok(outcome.work),
-        number => Err(Refused { refusal: SENTENCES[number as usize - 1].0, place: outcome.place }),
+    if outcome.refusal == 0 {
+        return Ok(outcome.work);
     }
+    let (refusal, _) = numbered(outcome.refusal).expect("the library answers known refusals alone");
+    Err(Refused { refusal, place: outcome.place })
 }
 
 #[cfg(test)]
@@ -95,9 +106,19 @@ mod tests {
 
     #[test]
     fn sentences_stand_in_the_order_of_the_numbers() {
-        for (at, (refusal, sentence)) in SENTENCES.iter().enumerate() {
-            assert_eq!(refusal.number(), at as u64 + 1);
-            assert_eq!(refusal.sentence(), *sentence);
+        for ((refusal, sentence), number) in SENTENCES.into_iter().zip((1..=14).chain([100])) {
+            assert_eq!(refusal.number(), number);
+            assert_eq!(refusal.sentence(), sentence);
         }
+    }
+
+    #[test]
+    fn a_short_buffer_says_how_many_numbers_it_needs() {
+        let refused = judged(Outcome { refusal: 100, place: 264, work: 0 }).unwrap_err();
+        assert_eq!(refused, Refused { refusal: NumbersTooFew, place: 264 });
+        assert_eq!(
+            refused.to_string(),
+            "refused 100 at 264: the buffer of numbers is too short (it needs 264 numbers)"
+        );
     }
 }

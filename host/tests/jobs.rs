@@ -1,4 +1,4 @@
-//! The library through the wrapper: the worked cases of an opening, and each of the fourteen refusals.
+//! The library through the wrapper: the worked cases of an opening, and each refusal of a job.
 
 use sotrugla::{filter, HiddenBox, Line, Operation, Page, Refusal, Spot, Ticket, TicketBytes};
 
@@ -92,6 +92,23 @@ fn each_page_refusal_has_its_place() {
     assert_eq!(refused(&good, page, [3, 3, 14]), (Refusal::ScratchTooShort, 0));
     let past = ticket().hide(hidden(0, 3)).hide(hidden(65535, 2)).encode();
     assert_eq!(refused(&past, page, [3, 3, 15]), (Refusal::BadBox, 1));
+}
+
+/// That this compiles is the test: the last arm can be reached, as more refusals may come.
+#[deny(unreachable_patterns)]
+fn is_of_today(refusal: Refusal) -> bool {
+    use Refusal::*;
+    match refusal {
+        TicketEnds | WrongTag | WrongLength | Unknown | TooManyBoxes => true,
+        BadVector | BadLength | BadOrigin | BadPhase | BadSides => true,
+        SourceTooShort | OutputTooShort | ScratchTooShort | BadBox | NumbersTooFew => true,
+        _ => false,
+    }
+}
+
+#[test]
+fn a_match_leaves_room_for_later_refusals() {
+    assert!(is_of_today(Refusal::NumbersTooFew));
 }
 
 #[test]

@@ -82,7 +82,7 @@ read-showable s r bytes e = rw e (showable s bytes)
 -- what is answered, and what stands in the buffer
 module _ (s numbers : List ℕ) where
   pub too-short : length numbers < numbersNeeded
-      → (_≡_ {A = Outcome} (record { refusal = 15; place = numbersNeeded; work = 0 }) (readOutcome s (length numbers)))
+      → (_≡_ {A = Outcome} (record { refusal = 100; place = numbersNeeded; work = 0 }) (readOutcome s (length numbers)))
       × (numbers ≡ numbersAfter s numbers)
   unfolding readOutcome numbersAfter
   too-short h = rw (lt-ltb (length numbers) numbersNeeded h) (refl, refl)

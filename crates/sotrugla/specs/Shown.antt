@@ -45,10 +45,11 @@ unfoldable pub verdictOutcome : Verdict → Outcome
 verdictOutcome Good = record { refusal = 0; place = 0; work = 0 }
 verdictOutcome (Refused fault at) = record { refusal = Judging.numberOf fault; place = at; work = 0 }
 
--- 15, and how many numbers are needed, where the buffer of n numbers is too short for them
+-- 100, and how many numbers are needed, where the buffer of n numbers is too short for them. 100 is ours: the documents'
+-- refusals are 1 to 25.
 unfoldable pub readOutcome : List ℕ → ℕ → Outcome
 readOutcome ticket n =
-    cond (ltb n numbersNeeded) (record { refusal = 15; place = numbersNeeded; work = 0 }) (verdictOutcome (reading ticket .verdict))
+    cond (ltb n numbersNeeded) (record { refusal = 100; place = numbersNeeded; work = 0 }) (verdictOutcome (reading ticket .verdict))
 
 -- the buffer: too short a one is not written, and of a longer one the numbers past the 264th keep their values
 unfoldable pub numbersAfter : List ℕ → List ℕ → List ℕ

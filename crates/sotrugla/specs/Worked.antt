@@ -31,10 +31,10 @@ shows : numbersAfter opening (replicate 265 7)
 unfolding shallow steep byteAt numberAt signed16 signedAt operationIn lineIn dxIn dyIn lengthIn originIn phaseIn boxHead boxIn boxesIn unless _then_ judgeHead judgeSize judgeField operationKnown lineKnown isPeriodic divided coprime vectorAllowed lengthAllowed originAllowed phaseAllowed judgeOperation judgeLine judgeVector judgeLength judgeOrigin judgePhase judgeBox judgeBoxes judged blank boxPlace boxPlaces shown shownUnder reading wordOf boxNumbers numbersAfter
 shows = refl
 
--- an empty ticket: refusal 1, and zeros; a buffer one number short: refusal 15, and nothing written
+-- an empty ticket: refusal 1, and zeros; a buffer one number short: refusal 100, and nothing written
 empty : (_≡_ {A = Outcome} (readOutcome [] 264) (record { refusal = 1; place = 0; work = 0 }))
     × (numbersAfter [] (replicate 264 7) ≡ replicate 264 0)
-    × (_≡_ {A = Outcome} (readOutcome [] 263) (record { refusal = 15; place = 264; work = 0 }))
+    × (_≡_ {A = Outcome} (readOutcome [] 263) (record { refusal = 100; place = 264; work = 0 }))
     × (numbersAfter [] (replicate 263 7) ≡ replicate 263 7)
 unfolding byteAt numberAt unless _then_ judgeHead judgeSize judgeField judgeOperation judgeLine judgeVector judgeLength judgeOrigin judgePhase judgeBox judgeBoxes judged blank shownUnder reading wordOf boxNumbers verdictOutcome readOutcome numbersAfter
 empty = (refl, refl, refl, refl)

@@ -12,8 +12,8 @@ ghost use Rattle.sotrugla.specs.Hiding.{hiddenBy};
 use filter::Placements;
 use filter::Spot;
 
-// An answer: refusal is 0 for a finished page or a ticket that was read, else the number of the refusal, 1 to 14, or 15 of
-// `sotrugla_read_ticket` alone.
+// An answer: refusal is 0 for a finished page or a ticket that was read, else the number of the refusal. 1 to 25 are the
+// documents' (1 to 14 so far); 100 is ours and means a buffer of numbers that is too short.
 #[repr(C)]
 pub struct Outcome {
     pub refusal: u64,
@@ -95,11 +95,13 @@ pub extern "C" fn sotrugla_scratch_needed(width: usize, height: usize) -> usize
     tray::place::scratch_needed(width, height)
 }
 
-// The numbers of document 01 end at 14.
-const NUMBERS_TOO_FEW: u64 = 15;
+// What every function answers that is handed a buffer of numbers too short: its place is the numbers needed, and nothing is
+// written. The documents' own refusals are 1 to 25.
+const NUMBERS_TOO_FEW: u64 = 100;
 
-// Reads a ticket alone into a buffer of 264 numbers, which hosts take for signed ones: a negative one stands there as two's
-// complement. A refused ticket shows zeros. A buffer too short is answered 15, its place the numbers needed, and is not written.
+// Reads a ticket alone into a buffer of 264 numbers, which hosts take for signed ones: a negative one stands there as
+// two's complement. A refused ticket shows zeros. A buffer too short is answered 100, its place the numbers needed, and is
+// not written.
 #[no_mangle]
 pub extern "C" fn sotrugla_read_ticket(ticket: &[u8], numbers: &mut [u64]) -> Outcome
     ensures answered { λ r. ⌜ r ≡ readOutcome (now (ticket .entry)) (length (now (numbers .entry))) ⌝ }

@@ -68,13 +68,7 @@ fn backward_band(
 }
 
 // The backward sweep, up the rows: page B becomes the running extremes to the blocks' ends of page A.
-pub fn backward(
-    g: Grid,
-    profile: &[usize],
-    reaches: &[usize],
-    marks: &[u16],
-    bytes: &mut [u8],
-) -> usize
+fn backward(g: Grid, profile: &[usize], reaches: &[usize], marks: &[u16], bytes: &mut [u8]) -> usize
     requires { ⌜ Sized g × Tabled g (now profile) (now reaches) × (size g + size g ≤ length (now bytes)) × Marked g (now marks) ⌝ }
     ensures { λ r. ⌜ Raised 0 g 0 0 (g .height) (now (bytes .entry)) (now (bytes .exit)) r ⌝ }
 {
@@ -143,13 +137,7 @@ fn lag_of(g: Grid) -> usize
 
 // The forward sweep, and close behind it the results, while the rows they read are still in the cache: page A becomes the extremes over the
 // windows.
-pub fn forward(
-    g: Grid,
-    profile: &[usize],
-    reaches: &[usize],
-    marks: &[u16],
-    bytes: &mut [u8],
-) -> usize
+fn forward(g: Grid, profile: &[usize], reaches: &[usize], marks: &[u16], bytes: &mut [u8]) -> usize
     requires { ⌜ Sized g × Tabled g (now profile) (now reaches) × (size g + size g ≤ length (now bytes)) × Marked g (now marks) ⌝ }
     ensures { λ r. ⌜ Lowered g (g .height) (g .height) (now (bytes .entry)) (now (bytes .exit)) r ⌝ }
 {
