@@ -1,8 +1,8 @@
 // Boxes of a page, and where they lie on the compact page.
 use crate::Layout;
 use crate::Rectangle;
-use crate::sides::compact_width;
 use crate::paint::paint;
+use crate::sides::compact_width;
 ghost use mathlib.Core.Path.{_≡_};
 ghost use Prim.Native.Nat.{_*_, _≤_};
 ghost use lib.ListN.{length};

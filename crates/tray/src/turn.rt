@@ -3,11 +3,11 @@
 // through a part that is lent.
 use crate::Layout;
 use crate::Placement;
-use crate::sides::compact;
 use crate::place::row_start;
 use crate::row::fill_row;
 use crate::row::row;
 use crate::row::row_from;
+use crate::sides::compact;
 use crate::tile::SIDE;
 use crate::tile::copy_side;
 use crate::tile::transpose;
