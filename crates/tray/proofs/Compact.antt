@@ -146,16 +146,11 @@ module _ (lay : Layout) (p q : Placement) (same : SameSides lay p) (is : q ≡ c
   unfolding downOf acrossOf
   alike-out way = record { across = same .across ∙ sym (wide true way); down = same .down ∙ sym (high true way) }
 
-  -- a shallow page is turned on its way in, and on its way out
-  abbrev pub turnIn : Turn
-  turnIn = record { source = p; target = q; readup = lay .falls; writeup = false }
-
-  abbrev pub turnOut : Turn
-  turnOut = record { source = q; target = p; readup = false; writeup = lay .falls }
-
-  pub turnable-in : (n m : ℕ) → lay .steep ≡ false → Placed p n → Placed q m → Turnable turnIn n m
+  pub turnable-in :
+      (n m : ℕ) (up down : Bool) → lay .steep ≡ false → Placed p n → Placed q m
+      → Turnable (record { source = p; target = q; readup = up; writeup = down }) n m
   unfolding downOf acrossOf
-  turnable-in n m way from to =
+  turnable-in n m up down way from to =
       record {
         from-tray = from;
         to-tray = to;
@@ -163,15 +158,24 @@ module _ (lay : Layout) (p q : Placement) (same : SameSides lay p) (is : q ≡ c
         down = high false way ∙ sym (same .across);
       }
 
-  pub turnable-out : (n m : ℕ) → lay .steep ≡ false → Placed q n → Placed p m → Turnable turnOut n m
+  pub turnable-out :
+      (n m : ℕ) (up down : Bool) → lay .steep ≡ false → Placed q n → Placed p m
+      → Turnable (record { source = q; target = p; readup = up; writeup = down }) n m
   unfolding downOf acrossOf
-  turnable-out n m way from to =
+  turnable-out n m up down way from to =
       record {
         from-tray = from;
         to-tray = to;
         across = same .across ∙ sym (high false way);
         down = same .down ∙ sym (wide false way);
       }
+
+  -- a shallow page is turned on its way in, and on its way out
+  abbrev turnIn : Turn
+  turnIn = record { source = p; target = q; readup = lay .falls; writeup = false }
+
+  abbrev turnOut : Turn
+  turnOut = record { source = q; target = p; readup = false; writeup = lay .falls }
 
   module _ (tray : List ℕ) (c r : ℕ) where
     copied-in :
