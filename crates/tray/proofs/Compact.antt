@@ -25,50 +25,54 @@ rows-fit w h m some fits =
     let back : (h - 1 + 1) * w ≡ h * w = ap (λ (k : ℕ). k * w) (omega arith) in
     omega (arith, back)
 
-module _ (lay : Layout) (p : Placement) (n m : ℕ) (placed : Placed p n) (same : SameSides lay p) (room : lay .width * lay .height ≤ m) where
-  width-least : 1 ≤ lay .width
-  width-least = omega (arith, placed .width-least, same .across)
+module _
+    (lay : Layout) (p : Placement) (n m : ℕ) (placed : Placed p n) (same : SameSides lay p)
+    (room : lay .width * lay .height ≤ m)
+  where
+    width-least : 1 ≤ lay .width
+    width-least = omega (arith, placed .width-least, same .across)
 
-  width-most : lay .width ≤ longestSide
-  width-most = omega (arith, placed .width-most, same .across)
+    width-most : lay .width ≤ longestSide
+    width-most = omega (arith, placed .width-most, same .across)
 
-  height-least : 1 ≤ lay .height
-  height-least = omega (arith, placed .height-least, same .down)
+    height-least : 1 ≤ lay .height
+    height-least = omega (arith, placed .height-least, same .down)
 
-  height-most : lay .height ≤ longestSide
-  height-most = omega (arith, placed .height-most, same .down)
+    height-most : lay .height ≤ longestSide
+    height-most = omega (arith, placed .height-most, same .down)
 
-  compact-placed : Placed (compactOf lay) m
-  unfolding compactOf downOf acrossOf
-  compact-placed = by-way (lay .steep)
-    where
-      by-way : (steep : Bool) → Placed (compactOf (laidSo lay steep)) m
-      by-way true =
-          record {
-            width-least = width-least;
-            width-most = width-most;
-            height-least = height-least;
-            height-most = height-most;
-            stride-least = le-refl (lay .width);
-            stride-most = omega (arith, width-most);
-            fitting =
-                rows-fit (lay .width) (lay .height) m height-least (omega (arith, mul-comm (lay .width) (lay .height), room));
-          }
-      by-way false =
-          record {
-            width-least = height-least;
-            width-most = height-most;
-            height-least = width-least;
-            height-most = width-most;
-            stride-least = le-refl (lay .height);
-            stride-most = omega (arith, height-most);
-            fitting = rows-fit (lay .height) (lay .width) m width-least room;
-          }
+    compact-placed : Placed (compactOf lay) m
+    unfolding compactOf downOf acrossOf
+    compact-placed = by-way (lay .steep)
+      where
+        by-way : (steep : Bool) → Placed (compactOf (laidSo lay steep)) m
+        by-way true =
+            record {
+              width-least = width-least;
+              width-most = width-most;
+              height-least = height-least;
+              height-most = height-most;
+              stride-least = le-refl (lay .width);
+              stride-most = omega (arith, width-most);
+              fitting =
+                  let turned = mul-comm (lay .width) (lay .height) in
+                  rows-fit (lay .width) (lay .height) m height-least (omega (arith, turned, room));
+            }
+        by-way false =
+            record {
+              width-least = height-least;
+              width-most = height-most;
+              height-least = width-least;
+              height-most = width-most;
+              stride-least = le-refl (lay .height);
+              stride-most = omega (arith, height-most);
+              fitting = rows-fit (lay .height) (lay .width) m width-least room;
+            }
 
 -- a page taken in: whatever was written holds the page's pixels in their compact places
 module _
-    (source : List ℕ) (p : Placement) (lay : Layout) (n : ℕ) (before : List ℕ) (placed : Placed p n) (same : SameSides lay p)
-    (room : lay .width * lay .height ≤ length before)
+    (source : List ℕ) (p : Placement) (lay : Layout) (n : ℕ) (before : List ℕ) (placed : Placed p n)
+    (same : SameSides lay p) (room : lay .width * lay .height ≤ length before)
   where
     byte-in :
         (c r : ℕ) → c < lay .width → r < lay .height
@@ -142,16 +146,11 @@ module _ (lay : Layout) (p q : Placement) (same : SameSides lay p) (is : q ≡ c
   unfolding downOf acrossOf
   alike-out way = record { across = same .across ∙ sym (wide true way); down = same .down ∙ sym (high true way) }
 
-  -- a shallow page is turned on its way in, and on its way out
-  abbrev pub turnIn : Turn
-  turnIn = record { source = p; target = q; readup = lay .falls; writeup = false }
-
-  abbrev pub turnOut : Turn
-  turnOut = record { source = q; target = p; readup = false; writeup = lay .falls }
-
-  pub turnable-in : (n m : ℕ) → lay .steep ≡ false → Placed p n → Placed q m → Turnable turnIn n m
+  pub turnable-in :
+      (n m : ℕ) (up down : Bool) → lay .steep ≡ false → Placed p n → Placed q m
+      → Turnable (record { source = p; target = q; readup = up; writeup = down }) n m
   unfolding downOf acrossOf
-  turnable-in n m way from to =
+  turnable-in n m up down way from to =
       record {
         from-tray = from;
         to-tray = to;
@@ -159,15 +158,24 @@ module _ (lay : Layout) (p q : Placement) (same : SameSides lay p) (is : q ≡ c
         down = high false way ∙ sym (same .across);
       }
 
-  pub turnable-out : (n m : ℕ) → lay .steep ≡ false → Placed q n → Placed p m → Turnable turnOut n m
+  pub turnable-out :
+      (n m : ℕ) (up down : Bool) → lay .steep ≡ false → Placed q n → Placed p m
+      → Turnable (record { source = q; target = p; readup = up; writeup = down }) n m
   unfolding downOf acrossOf
-  turnable-out n m way from to =
+  turnable-out n m up down way from to =
       record {
         from-tray = from;
         to-tray = to;
         across = same .across ∙ sym (high false way);
         down = same .down ∙ sym (wide false way);
       }
+
+  -- a shallow page is turned on its way in, and on its way out
+  abbrev turnIn : Turn
+  turnIn = record { source = p; target = q; readup = lay .falls; writeup = false }
+
+  abbrev turnOut : Turn
+  turnOut = record { source = q; target = p; readup = false; writeup = lay .falls }
 
   module _ (tray : List ℕ) (c r : ℕ) where
     copied-in :
@@ -221,7 +229,8 @@ module _ (lay : Layout) (p q : Placement) (same : SameSides lay p) (is : q ≡ c
         → after ≡ written q (copiedPixel source p (lay .falls)) before → PageIn source p lay before after
     in-steep source n way placed room done =
         let page = copiedPixel source p (lay .falls) in
-        page-in source p lay n before placed same room page after (done ∙ ap (λ (x : Placement). written x page before) is)
+        page-in source p lay n before placed same room page after
+        (done ∙ ap (λ (x : Placement). written x page before) is)
         (λ r r-in c c-in. copied-in source c r way c-in)
 
     pub in-shallow :
@@ -229,7 +238,8 @@ module _ (lay : Layout) (p q : Placement) (same : SameSides lay p) (is : q ≡ c
         → after ≡ written q (turnedPixel source turnIn) before → PageIn source p lay before after
     in-shallow source n way placed room done =
         let page = turnedPixel source turnIn in
-        page-in source p lay n before placed same room page after (done ∙ ap (λ (x : Placement). written x page before) is)
+        page-in source p lay n before placed same room page after
+        (done ∙ ap (λ (x : Placement). written x page before) is)
         (λ r r-in c c-in. turned-in source c r way r-in)
 
     pub out-steep :

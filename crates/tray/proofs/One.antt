@@ -34,7 +34,8 @@ in-or-out x a b held not =
     (λ top. by-cases (decLt a (x .bottom))
     (λ bottom. by-cases (decLt b (x .left)) (λ l. not (λ i. omega (arith, i .from-left)))
     (λ left. by-cases (decLt b (x .right))
-    (λ right. held (record { below-top = omega arith; above-bottom = bottom; from-left = omega arith; before-right = right }))
+    (λ right.
+    held (record { below-top = omega arith; above-bottom = bottom; from-left = omega arith; before-right = right }))
     (λ l. not (λ i. omega (arith, i .before-right)))))
     (λ l. not (λ i. omega (arith, i .above-bottom))))
 
@@ -73,7 +74,8 @@ place-of lay i i-in =
       column-in = p .column-in;
       row-in = p .row-in;
       byte =
-          ap (λ (k : ℕ). k * w + compactColumn lay (pageColumn lay (i / w) (i % w)) (pageRow lay (i / w) (i % w))) (p .down)
+          let column = compactColumn lay (pageColumn lay (i / w) (i % w)) (pageRow lay (i / w) (i % w)) in
+          ap (λ (k : ℕ). k * w + column) (p .down)
           ∙ ap (λ (k : ℕ). i / w * w + k) (p .across)
           ∙ div-add-mod' i w;
     })
@@ -84,7 +86,8 @@ place-of lay i i-in =
 -- two results that agree on every pixel and on all that follows the page
 compact-one :
     (lay : Layout) (one two : List ℕ) → length one ≡ length two
-    → ((r : ℕ) → r < lay .height → (c : ℕ) → c < lay .width → getD one (compactAt lay c r) 0 ≡ getD two (compactAt lay c r) 0)
+    → ((r : ℕ) → r < lay .height → (c : ℕ) → c < lay .width
+    → getD one (compactAt lay c r) 0 ≡ getD two (compactAt lay c r) 0)
     → ((i : ℕ) → lay .width * lay .height ≤ i → getD one i 0 ≡ getD two i 0) → one ≡ two
 compact-one lay one two size pixels rest =
     ext-getD 0 one two size

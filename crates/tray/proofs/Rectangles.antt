@@ -22,7 +22,8 @@ mirrored-between :
 unfolding mirroredFrom mirroredTo
 mirrored-between true w m n k n-in k-in from to =
     (omega (arith, mirrored-falling w k), omega (arith, mirrored-falling w k))
-mirrored-between false w m n k n-in k-in from to = (omega (arith, mirrored-rising w k), omega (arith, mirrored-rising w k))
+mirrored-between false w m n k n-in k-in from to =
+    (omega (arith, mirrored-rising w k), omega (arith, mirrored-rising w k))
 
 between-mirrored :
     (falls : Bool) (w m n k : ℕ) → n ≤ w → k < w → mirroredFrom falls w m n ≤ mirrored falls w k
@@ -30,7 +31,8 @@ between-mirrored :
 unfolding mirroredFrom mirroredTo
 between-mirrored true w m n k n-in k-in from to =
     (omega (arith, mirrored-falling w k), omega (arith, mirrored-falling w k))
-between-mirrored false w m n k n-in k-in from to = (omega (arith, mirrored-rising w k), omega (arith, mirrored-rising w k))
+between-mirrored false w m n k n-in k-in from to =
+    (omega (arith, mirrored-rising w k), omega (arith, mirrored-rising w k))
 
 -- a pixel of the page lies in a rectangle of the page exactly where its compact place lies in the turned rectangle
 module _
@@ -39,7 +41,8 @@ module _
   where
     abbrev Turned : Bool → Type 0
     Turned steep =
-        InRectangle (turnedBox (laidSo lay steep) x) (compactRow (laidSo lay steep) c r) (compactColumn (laidSo lay steep) c r)
+        let so = laidSo lay steep in
+        InRectangle (turnedBox so x) (compactRow so c r) (compactColumn so c r)
 
     in-turned : InRectangle x r c → InRectangle (turnedBox lay x) (compactRow lay c r) (compactColumn lay c r)
     unfolding turnedBox compactColumn downOf acrossOf
@@ -47,10 +50,12 @@ module _
       where
         by-way : (steep : Bool) → Turned steep
         by-way true =
-            let across = mirrored-between (lay .falls) (lay .width) (x .left) (x .right) c right-in c-in (i .from-left) (i .before-right) in
+            let across =
+            mirrored-between (lay .falls) (lay .width) (x .left) (x .right) c right-in c-in (i .from-left) (i .before-right) in
             record { below-top = i .below-top; above-bottom = i .above-bottom; from-left = across .0; before-right = across .1 }
         by-way false =
-            let across = mirrored-between (lay .falls) (lay .height) (x .top) (x .bottom) r bottom-in r-in (i .below-top) (i .above-bottom) in
+            let across =
+            mirrored-between (lay .falls) (lay .height) (x .top) (x .bottom) r bottom-in r-in (i .below-top) (i .above-bottom) in
             record { below-top = i .from-left; above-bottom = i .before-right; from-left = across .0; before-right = across .1 }
 
     turned-in : InRectangle (turnedBox lay x) (compactRow lay c r) (compactColumn lay c r) → InRectangle x r c
@@ -59,10 +64,12 @@ module _
       where
         by-way : (steep : Bool) → Turned steep → InRectangle x r c
         by-way true i =
-            let across = between-mirrored (lay .falls) (lay .width) (x .left) (x .right) c right-in c-in (i .from-left) (i .before-right) in
+            let across =
+            between-mirrored (lay .falls) (lay .width) (x .left) (x .right) c right-in c-in (i .from-left) (i .before-right) in
             record { below-top = i .below-top; above-bottom = i .above-bottom; from-left = across .0; before-right = across .1 }
         by-way false i =
-            let across = between-mirrored (lay .falls) (lay .height) (x .top) (x .bottom) r bottom-in r-in (i .from-left) (i .before-right) in
+            let across =
+            between-mirrored (lay .falls) (lay .height) (x .top) (x .bottom) r bottom-in r-in (i .from-left) (i .before-right) in
             record { below-top = across .0; above-bottom = across .1; from-left = i .below-top; before-right = i .above-bottom }
 
 module _ (lay : Layout) (x : Rectangle) (on : RectangleFits x (lay .width) (lay .height)) where
@@ -94,8 +101,8 @@ module _ (lay : Layout) (x : Rectangle) (on : RectangleFits x (lay .width) (lay 
         wide = wide-way (lay .steep) (lay .falls);
         right-in = right-way (lay .steep) (lay .falls);
         rows-in =
-            omega
-            (arith, mul-le-mul-right (compactWidth lay) bottom-turned, sides-product (lay .steep) (lay .width) (lay .height));
+            let product = sides-product (lay .steep) (lay .width) (lay .height) in
+            omega (arith, mul-le-mul-right (compactWidth lay) bottom-turned, product);
       }
     where
       high-way : (steep : Bool) → downOf steep (x .left) (x .top) ≤ downOf steep (x .right) (x .bottom)
@@ -133,7 +140,8 @@ module _ (lay : Layout) (x : Rectangle) (on : RectangleFits x (lay .width) (lay 
             let product = sides-product (lay .steep) (lay .width) (lay .height) in
             let past : compactHeight lay ≤ i / w = le-div-iff-mul-le across-least .1 (omega (arith, product)) in
             let same =
-            p .kept (i / w) (i % w) (mod-lt i across-least) (λ q. omega (arith, q .above-bottom, bottom-turned, past)) in
+            p .kept (i / w) (i % w) (mod-lt i across-least)
+            (λ q. omega (arith, q .above-bottom, bottom-turned, past)) in
             subst (λ (k : ℕ). getD after k 0 ≡ getD before k 0) (div-add-mod' i w) same;
       }
 
@@ -145,7 +153,8 @@ module _ (lay : Layout) (x : Rectangle) (on : RectangleFits x (lay .width) (lay 
         (subst (λ (z : Rectangle). RectangleInRows z (compactWidth lay) n) (sym turned) (box-in-rows n room))
 
     pub box-painted-as :
-        (value : ℕ) (before after : List ℕ) → RectanglePainted w y value before after → BoxPainted lay x value before after
+        (value : ℕ) (before after : List ℕ) → RectanglePainted w y value before after
+        → BoxPainted lay x value before after
     box-painted-as value before after p =
         box-painted value before after
         (subst (λ (v : ℕ). RectanglePainted v (turnedBox lay x) value before after) across

@@ -1,13 +1,13 @@
--- Laws of the definitions, for those who build on pages in trays. What follows from where a row starts (rowStart) stands
--- in the first two sections; nothing after them opens it, but for the byte of a compact page.
+-- Laws of the definitions, for those who build on pages in trays. What follows from where a row starts (rowStart)
+-- stands in the first two sections; nothing after them opens it, but for the byte of a compact page.
 -- Assumes nothing.
 use mathlib.Core.Path.{_≡_, refl, sym, _∙_, ap, subst}
 use mathlib.Core.Logic.{by-cases, _⊎_, inl, inr}
 use mathlib.Core.Bool.{Bool, true, false, _&&_, cond, and-eq-true-iff}
 use mathlib.Core.List.{List, [], _∷_, _++_}
 use Prim.Native.Nat.{ℕ, zero, suc, _+_, _-_, _*_, _/_, _%_, _≤_, _<_, max}
-use native.Mathlib.Nat.{add-zero, mul-le-mul-right, mul-comm, mul-assoc, suc-mul, mod-eq-of-lt, div-eq-of-lt, div-add-mod'}
-use native.Mathlib.Nat.{mul-add-mod-self-right, mul-add-div-right}
+use native.Mathlib.Nat.{add-zero, mul-le-mul-right, mul-comm, mul-assoc, suc-mul, mod-eq-of-lt, div-eq-of-lt}
+use native.Mathlib.Nat.{div-add-mod', mul-add-mod-self-right, mul-add-div-right}
 use native.Mathlib.Decide.{decLt}
 use native.Mathlib.Omega.{arith}
 use lib.ListN.{length, getD, take, drop, replicate, length-append, length-replicate, length-drop, getD-replicate}
@@ -116,7 +116,8 @@ module _ (p : Placement) (c r : ℕ) (wide : c < p .stride) where
 -- two pixels with the same byte are the same pixel
 module _ (p : Placement) (n c r c′ r′ : ℕ) (h : Placed p n) where
   pub byte-same :
-      c < p .width → r < p .height → c′ < p .width → r′ < p .height → byteOf p c r ≡ byteOf p c′ r′ → (c ≡ c′) × (r ≡ r′)
+      c < p .width → r < p .height → c′ < p .width → r′ < p .height → byteOf p c r ≡ byteOf p c′ r′
+      → (c ≡ c′) × (r ≡ r′)
   byte-same c-in r-in c′-in r′-in e =
       let wide : c < p .stride = omega (arith, h .stride-least) in
       let wide′ : c′ < p .stride = omega (arith, h .stride-least) in (
@@ -198,18 +199,23 @@ module _ (p : Placement) (page : ℕ → ℕ → ℕ) where
       (tray : List ℕ) (c r : ℕ) → c < p .stride → c < p .width → r < p .height → byteOf p c r < length tray
       → getD (written p page tray) (byteOf p c r) 0 ≡ page c r
   written-pixel tray c r wide c-in r-in l =
-      rw (written-at tray (byteOf p c r) l, inside-byte p c r wide c-in r-in, column-of-byte p c r wide, row-of-byte p c r wide)
+      let column = column-of-byte p c r wide in
+      let row = row-of-byte p c r wide in
+      rw (written-at tray (byteOf p c r) l, inside-byte p c r wide c-in r-in, column, row)
 
 -- only the page's own pixels count
 pub written-same :
-    (p : Placement) (one two : ℕ → ℕ → ℕ) (tray : List ℕ) → ((r : ℕ) → r < p .height → (c : ℕ) → c < p .width → one c r ≡ two c r)
+    (p : Placement) (one two : ℕ → ℕ → ℕ) (tray : List ℕ)
+    → ((r : ℕ) → r < p .height → (c : ℕ) → c < p .width → one c r ≡ two c r)
     → written p one tray ≡ written p two tray
 written-same p one two tray same =
-    ext-getD 0 (written p one tray) (written p two tray) (length-written p one tray ∙ sym (length-written p two tray)) each
+    let size = length-written p one tray ∙ sym (length-written p two tray) in
+    ext-getD 0 (written p one tray) (written p two tray) size each
   where
     by-place :
         (i : ℕ) (b : Bool) → inside p i ≡ b
-        → cond b (one (columnOf p i) (rowOf p i)) (getD tray i 0) ≡ cond b (two (columnOf p i) (rowOf p i)) (getD tray i 0)
+        → cond b (one (columnOf p i) (rowOf p i)) (getD tray i 0)
+        ≡ cond b (two (columnOf p i) (rowOf p i)) (getD tray i 0)
     by-place i true h =
         let x = inside-pixel p i h in
         same (rowOf p i) (x .row) (columnOf p i) (x .column)
@@ -272,7 +278,8 @@ module _ (steep : Bool) (c r width height : ℕ) (c-in : c < width) (r-in : r < 
       by-way true = r-in
       by-way false = c-in
 
-pub sides-product : (steep : Bool) (width height : ℕ) → downOf steep width height * acrossOf steep width height ≡ width * height
+pub sides-product :
+    (steep : Bool) (width height : ℕ) → downOf steep width height * acrossOf steep width height ≡ width * height
 unfolding downOf acrossOf
 sides-product true width height = mul-comm height width
 sides-product false width height = refl

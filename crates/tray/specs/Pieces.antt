@@ -64,8 +64,8 @@ pub record Taken (n : ℕ) (tray : List ℕ) (t : Turn) (a b : ℕ) (tile : List
   pub size : length tile ≡ 256
   pub each : (k : ℕ) → k < n → (i : ℕ) → i < 16 → getD tile (16 * k + i) 0 ≡ sourcePixel tray t (a + i) (b + k)
 
--- of the target page, the columns from b to just before f are right in the rows that the source's columns from a to just
--- before e become
+-- of the target page, the columns from b to just before f are right in the rows that the source's columns from a to
+-- just before e become
 pub record Part (page : ℕ → ℕ → ℕ) (t : Turn) (a e b f : ℕ) (before after : List ℕ) : Type 0 where
   pub moved : Moved (t .target) page before after
   pub right :

@@ -45,7 +45,7 @@ sourcePage p = record { offset = p .source .offset; width = p .width; height = p
 unfoldable pub outputPage : Placements → Placement
 outputPage p = record { offset = p .output .offset; width = p .width; height = p .height; stride = p .output .stride }
 
--- "Scratch needed: 2·w·h + 3·max(w, h) bytes.": said for any number of pages in the scratch, with 2 of them the sentence
+-- "Scratch needed: 2·w·h + 3·max(w, h) bytes.": said for any number of pages; with 2 it is the sentence
 unfoldable pub scratchNeeded : ℕ → ℕ → ℕ → ℕ
 scratchNeeded pages w h = pages * w * h + 3 * max w h
 

@@ -1,5 +1,5 @@
--- What the public functions ask and promise, where it is more than an equation with a definition: each promise says what
--- stands at every place of every buffer that was lent.
+-- What the public functions ask and promise, where it is more than an equation with a definition: each promise says
+-- what stands at every place of every buffer that was lent.
 -- Assumes nothing.
 use mathlib.Core.Path.{_≡_}
 use mathlib.Core.Bool.{Bool}
@@ -55,7 +55,8 @@ pub record RectanglePainted (w : ℕ) (x : Rectangle) (value : ℕ) (before afte
 pub record BoxPainted (lay : Layout) (x : Rectangle) (value : ℕ) (before after : List ℕ) : Type 0 where
   pub size : length after ≡ length before
   pub hidden :
-      (r : ℕ) → r < lay .height → (c : ℕ) → c < lay .width → InRectangle x r c → getD after (compactAt lay c r) 0 ≡ value
+      (r : ℕ) → r < lay .height → (c : ℕ) → c < lay .width → InRectangle x r c
+      → getD after (compactAt lay c r) 0 ≡ value
   pub shown :
       (r : ℕ) → r < lay .height → (c : ℕ) → c < lay .width → (InRectangle x r c → ⊥)
       → getD after (compactAt lay c r) 0 ≡ getD before (compactAt lay c r) 0

@@ -1,6 +1,6 @@
 -- The compact page, on which lines run down the rows: the page's pixels side by side, row after row, with nothing
--- between the rows. A steep page keeps its rows and columns; a shallow one is transposed, so that its columns become the
--- rows. Where the line falls, the compact columns are counted from the other end, so that it rises.
+-- between the rows. A steep page keeps its rows and columns; a shallow one is transposed, so that its columns become
+-- the rows. Where the line falls, the compact columns are counted from the other end, so that it rises.
 -- Assumes nothing.
 use Prim.Native.Nat.{ℕ, _+_, _-_, _*_, _≤_, _<_}
 use mathlib.Core.Bool.{Bool, true, false}
@@ -60,7 +60,8 @@ pub record InRectangle (x : Rectangle) (a b : ℕ) : Type 0 where
 unfoldable pub boxed : ℕ → ℕ → ℕ → ℕ → Rectangle
 boxed left top width height = record { top = top; bottom = top + height; left = left; right = left + width }
 
--- where the columns from m to just before n of w are found when they are mirrored: their first and the one past their last
+-- where the columns from m to just before n of w are found when they are mirrored: their first, and the one past their
+-- last
 unfoldable pub mirroredFrom : Bool → ℕ → ℕ → ℕ → ℕ
 mirroredFrom true w m n = w - n
 mirroredFrom false w m n = m

@@ -1,5 +1,5 @@
--- Two rows of three pixels in the middle of a tray: offset 2, stride 4. Their places on the compact page, and a box over
--- the last two pixels of the second row.
+-- Two rows of three pixels in the middle of a tray: offset 2, stride 4. Their places on the compact page, and a box
+-- over the last two pixels of the second row.
 -- Assumes nothing.
 use mathlib.Core.Path.{_≡_, refl}
 use Prim.Native.Nat.{ℕ, _+_, _*_}

@@ -1,6 +1,6 @@
--- What a finished job leaves behind. Document 01: a finished job "writes only its page and leaves the scratch it used at
--- zero"; "Only these first bytes may be used; they hold zero at the end of a finished job. Later scratch bytes keep their
--- values."
+-- What a finished job leaves behind. Document 01: a finished job "writes only its page and leaves the scratch it used
+-- at zero"; "Only these first bytes may be used; they hold zero at the end of a finished job. Later scratch bytes keep
+-- their values."
 -- Assumes nothing.
 use Prim.Native.Nat.{ℕ, zero, suc, _-_, _/_, _%_}
 use mathlib.Core.Bool.{Bool, _&&_, cond}
@@ -20,8 +20,8 @@ rowOf p at = (at - p .offset) / p .stride
 unfoldable pub inside : Placement → ℕ → Bool
 inside p at = leb (p .offset) at && (ltb (columnOf p at) (p .width) && ltb (rowOf p at) (p .height))
 
--- the tray from its byte at on, with a page written into it: the page's bytes are the page's pixels, every other is as it
--- was
+-- the tray from its byte at on, with a page written into it: the page's bytes are the page's pixels, every other is as
+-- it was
 unfoldable pub writtenFrom : Placement → (ℕ → ℕ → ℕ) → ℕ → List ℕ → List ℕ
 writtenFrom p page at [] = []
 writtenFrom p page at (old ∷ tray) =

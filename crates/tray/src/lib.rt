@@ -2,8 +2,8 @@
 // out for the filter. No function reads or writes a byte of a tray outside the page that it is given.
 //
 // The definitions stand in specs/: Placement (limits, fitting, the byte of a pixel, scratch), Written (a tray with a
-// page written into it), Turned (the compact page), Promises (what the functions here ask and promise beside equations with
-// these), and Laws, what follows.
+// page written into it), Turned (the compact page), Promises (what the functions here ask and promise beside equations
+// with these), and Laws, what follows.
 //
 //     place   a placement's limits, whether it fits, where a row starts; the two pages of a job; the scratch needed
 //     row     a row handed out, a row filled

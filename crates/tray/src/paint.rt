@@ -23,10 +23,12 @@ pub fn paint(page: &mut [u8], w: usize, x: Rectangle, value: u8)
     ensures { λ _. ⌜ RectanglePainted w x value (now (page .entry)) (now (page .exit)) ⌝ }
 {
     let bottom = x.bottom;
+    let left = x.left;
+    let right = x.right;
     let mut r = x.top;
     while r < bottom {
-        let from = r * w + x.left;
-        let to = r * w + x.right;
+        let from = r * w + left;
+        let to = r * w + right;
         fill(&mut page[from..to], value);
         r += 1;
     }

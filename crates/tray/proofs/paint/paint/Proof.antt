@@ -1,4 +1,5 @@
--- `tray::paint::paint` meets its contract. The invariant: the rows from top to just above r are painted, and nothing else. Assumes nothing.
+-- `tray::paint::paint` meets its contract. The invariant: the rows from top to just above r are painted, and nothing else.
+-- Assumes nothing.
 use mathlib.Core.Path.{_≡_, refl, subst}
 use Prim.Native.Nat.{ℕ, _+_, _-_, _*_, _≤_}
 use native.Mathlib.Nat.{mul-le-mul-right}
@@ -11,11 +12,11 @@ use Rattle.tray.proofs.paint.paint.Statement.{statement}
 use Rattle.tray.proofs.paint.paint.Tie as tie
 
 abbrev Inv-loop : tie.InvT-loop
-Inv-loop page₀ w x value bottom r₀ page r =
-    (x .top ≤ r) × (r ≤ x .bottom) × RectanglePainted w (rows (x .top) (x .left) (x .right) r) value page₀ page
+Inv-loop page₀ w value bottom left right r₀ page r =
+    (r₀ ≤ r) × (r ≤ bottom) × RectanglePainted w (rows r₀ left right r) value page₀ page
 
 abbrev μ-loop : tie.MeasureT-loop
-μ-loop page₀ w x value bottom r₀ page r = x .bottom - r
+μ-loop page₀ w value bottom left right r₀ page r = bottom - r
 
 loop-holds : tie.Need-loop-holds Inv-loop μ-loop
 loop-holds c = (search needs, c .before .pre .high, painted-none _ _ _ _ _ _)
@@ -34,20 +35,22 @@ mul-from : tie.Need-mul-from Inv-loop μ-loop
 mul-from c = omega (arith, room c, c .before .before .before .good .0 .0)
 
 add-from : tie.Need-add-from Inv-loop μ-loop
-add-from c = omega (arith, room (c .before), c .before .before .before .before .pre .wide, c .before .before .before .before .pre .right-in)
+add-from c =
+    let fits = c .before .before .before .pre in
+    omega (arith, room c, fits .wide, fits .right-in)
 
 mul-to : tie.Need-mul-to Inv-loop μ-loop
-mul-to c = omega (arith, room (c .before))
+mul-to c = omega (arith, room c)
 
 add-to : tie.Need-add-to Inv-loop μ-loop
-add-to c = omega (arith, room (c .before .before), c .before .before .before .before .before .pre .right-in)
+add-to c = omega (arith, room c, c .before .before .before .pre .right-in)
 
 part-fill-end : tie.Need-part-fill-end Inv-loop μ-loop
-part-fill-end c = omega (arith, room (c .before .before), c .before .before .before .before .before .pre .right-in)
+part-fill-end c = omega (arith, room c, c .before .before .before .pre .right-in)
 
 loop-again : tie.Need-loop-again Inv-loop μ-loop
 loop-again c =
-    let turn = c .before .before .before .before .before .before in
+    let turn = c .before .before .before .before in
     let s = turn .before .before .before in
     let a = s .args in
     let l = turn .before .loop in

@@ -17,10 +17,10 @@ mul-result : tie.Need-mul-result
 mul-result c = omega (arith, wide c)
 
 mul-result-2 : tie.Need-mul-result-2
-mul-result-2 c = omega (arith, whole c)
+mul-result-2 c = omega (arith, wide c, whole c)
 
 add-result : tie.Need-add-result
-add-result c = omega (arith, whole (c .before), c .greater .ensures)
+add-result c = omega (arith, wide (c .before), whole (c .before), c .greater .ensures)
 
 returns : tie.Need-returns
 unfolding scratchNeeded

@@ -17,7 +17,7 @@ turn-page-requires c κs =
     let is = c .before .before .compact .ensures in
     let same = s .pre .1 .0 in
     let to = placed-compact _ _ _ same is _ _ (s .pre .0) (s .pre .1 .1) in
-    turnable-in _ _ _ same is _ _ (c .before .if1 .left) (s .pre .0) to
+    turnable-in _ _ _ same is _ _ _ _ (c .before .if1 .left) (s .pre .0) to
 
 returns : tie.Need-returns
 returns c =

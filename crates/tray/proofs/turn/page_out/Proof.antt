@@ -17,7 +17,7 @@ turn-page-requires c κs =
     let is = c .before .before .compact .ensures in
     let same = s .pre .1 .0 in
     let from = placed-compact _ _ _ same is _ _ (s .pre .0) (s .pre .1 .1) in
-    turnable-out _ _ _ same is _ _ (c .before .if1 .left) from (s .pre .0)
+    turnable-out _ _ _ same is _ _ _ _ (c .before .if1 .left) from (s .pre .0)
 
 returns : tie.Need-returns
 returns c =

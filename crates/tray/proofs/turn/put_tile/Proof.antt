@@ -26,7 +26,7 @@ row-start-requires : tie.Need-row-start-requires Inv-loop μ-loop
 row-start-requires c κs =
     let s = c .before .before .before .before in
     let t = s .args .t in
-    let room = mirrored-room (t .writeup) (t .target) _ (s .args .a) _ (s .pre .0) (omega (arith, s .pre .1 .1)) (ap (rowStart (t .target)) (c .mirrored .ensures)) in
+    let room = mirrored-room _ (t .target) _ (s .args .a) _ (s .pre .0) (omega (arith, s .pre .1 .1)) (ap (rowStart (t .target)) (c .mirrored .ensures)) in
     omega (arith, room, s .good .1 .1 .0 .0)
 
 loop-holds : tie.Need-loop-holds Inv-loop μ-loop
