@@ -9,6 +9,7 @@ use lib.Dec.{ltb}
 use lib.ListN.{length, getD}
 use borrow.Author.Tests.{lt-ltb, le-ltb}
 use Rattle.boxes.specs.Boxes.{hidden}
+use Rattle.hiding.specs.Hiding.{BoxesLie, BoxesPainted}
 use Rattle.geometry.specs.Drift.{drift, reach}
 use Rattle.geometry.specs.Tables.{ProfileTable, ReachTable}
 use Rattle.geometry.specs.declared.Line.{Line}
@@ -24,7 +25,7 @@ use Rattle.tray.specs.declared.Placement.{Placement}
 use Rattle.filter.specs.Seen.{View, seen, turned}
 use Rattle.filter.specs.Filters.{operated, filtered, orWhite, recipeBoxes, filteredPage}
 use Rattle.filter.specs.Work.{workOf}
-use Rattle.filter.specs.Engine.{Absent, Bytes, steepOf, layoutOf, gridOf, placeOf, Held, Painted, PassDone, BoxesLie, Runs, Tables, Enters, Ready}
+use Rattle.filter.specs.Engine.{Absent, Bytes, steepOf, layoutOf, gridOf, placeOf, Held, PassDone, Runs, Tables, Enters, Ready}
 use Rattle.filter.specs.Promises.{Fits, Filtered}
 use Rattle.filter.specs.declared.Recipe.{Recipe}
 
@@ -100,7 +101,7 @@ module _ (how : Recipe) (p : Placement) (source : List ℕ) (bytes : (k : ℕ) �
             ∙ ap some (sym (into .pixel r r-in c c-in));
       }
 
-  module _ (one two three four : List ℕ) (work : ℕ) (into : PageIn source p (layoutOf how (p .width) (p .height)) one two) (through : PassDone how (layoutOf how (p .width) (p .height)) (operated (how .operation) (how .segment)) (workOf (how .operation) (how .segment) (p .width) (p .height)) 6 two three work) (whited : Painted (recipeBoxes how) (layoutOf how (p .width) (p .height)) (how .white) three four) where
+  module _ (one two three four : List ℕ) (work : ℕ) (into : PageIn source p (layoutOf how (p .width) (p .height)) one two) (through : PassDone how (layoutOf how (p .width) (p .height)) (operated (how .operation) (how .segment)) (workOf (how .operation) (how .segment) (p .width) (p .height)) 6 two three work) (whited : BoxesPainted (recipeBoxes how) (layoutOf how (p .width) (p .height)) (how .white) three four) where
     held : Held how (p .width) (p .height) (operated (how .operation) (how .segment) page) three
     held = through .page page (entered one two into)
 
@@ -156,7 +157,7 @@ tables-as how n line profile reaches is np nr profiled reached =
 pub tables-long : (how : Recipe) (n m : ℕ) (profile reaches : List ℕ) → n ≡ m → Tables how n profile reaches → Tables how m profile reaches
 tables-long how n m profile reaches e all = subst (λ (k : ℕ). Tables how k profile reaches) e all
 
-pub rows-most : (how : Recipe) (lay : Layout) → BoxesLie how (lay .width) (lay .height) → compactHeight lay ≤ 8192
+pub rows-most : (how : Recipe) (lay : Layout) → BoxesLie (recipeBoxes how) lay → compactHeight lay ≤ 8192
 unfolding downOf
 rows-most how lay lie = by-way (lay .steep)
   where
@@ -182,20 +183,21 @@ module _ (how : Recipe) (p : Placement) (lay : Layout) (laid : lay ≡ layoutOf 
       record {
         segment = enters .segment;
         laid = laid-so;
+        count-most = enters .count-most;
         boxes = boxes-on enters;
         tables = tabled how lay laid-so profile reaches all;
         two-pages = room-in enters n same;
       }
     where
-      boxes-on : Enters how p source scratch → BoxesLie how (lay .width) (lay .height)
-      boxes-on e = subst (λ (l : Layout). BoxesLie how (l .width) (l .height)) (sym laid) (e .boxes)
+      boxes-on : Enters how p source scratch → BoxesLie (recipeBoxes how) lay
+      boxes-on e = subst (BoxesLie (recipeBoxes how)) (sym laid) (e .boxes)
 
       room-in : Enters how p source scratch → (n : ℕ) → n ≡ scratch → lay .width * lay .height + lay .width * lay .height ≤ n
       room-in e n same =
           subst (λ (l : Layout). l .width * l .height + l .width * l .height ≤ n) (sym laid) (omega (arith, e .room))
 
-  pub boxes-lie : (source scratch : ℕ) → Enters how p source scratch → BoxesLie how (lay .width) (lay .height)
-  boxes-lie source scratch e = subst (λ (l : Layout). BoxesLie how (l .width) (l .height)) (sym laid) (e .boxes)
+  pub boxes-lie : (source scratch : ℕ) → Enters how p source scratch → BoxesLie (recipeBoxes how) lay
+  boxes-lie source scratch e = subst (BoxesLie (recipeBoxes how)) (sym laid) (e .boxes)
 
   pub room-one : (source scratch : ℕ) → Enters how p source scratch → lay .width * lay .height ≤ scratch
   room-one source scratch e = subst (λ (l : Layout). l .width * l .height ≤ scratch) (sym laid) (omega (arith, e .room))
@@ -203,12 +205,12 @@ module _ (how : Recipe) (p : Placement) (lay : Layout) (laid : lay ≡ layoutOf 
   pub ready-as :
       (source : List ℕ) → ((k : ℕ) → getD source k 0 < 256) → (one two three four : List ℕ) (work : ℕ) → PageIn source p lay one two
       → PassDone how lay (operated (how .operation) (how .segment)) (workOf (how .operation) (how .segment) (lay .width) (lay .height)) 6 two three work
-      → Painted (recipeBoxes how) lay (how .white) three four → Ready how p source one four work
+      → BoxesPainted (recipeBoxes how) lay (how .white) three four → Ready how p source one four work
   ready-as source bytes one two three four work into through whited =
       ready how p source bytes one two three four work
       (subst (λ (l : Layout). PageIn source p l one two) laid into)
       (subst (λ (l : Layout). PassDone how l (operated (how .operation) (how .segment)) (workOf (how .operation) (how .segment) (l .width) (l .height)) 6 two three work) laid through)
-      (subst (λ (l : Layout). Painted (recipeBoxes how) l (how .white) three four) laid whited)
+      (subst (λ (l : Layout). BoxesPainted (recipeBoxes how) l (how .white) three four) laid whited)
 
 -- ---- out of it
 

@@ -4,7 +4,6 @@ pub mod Charges
 pub mod Extremes
 pub mod Finishing
 pub mod Grids
-pub mod Hiding
 pub mod Neutral
 pub mod Kept
 pub mod Passing

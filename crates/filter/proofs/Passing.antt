@@ -19,10 +19,11 @@ use Rattle.tray.specs.Turned.{acrossOf, downOf, compactColumn, compactAt}
 use Rattle.tray.specs.declared.Layout.{Layout}
 use Rattle.tray.specs.Laws.{down-in, across-in, compact-column-in, sides-product}
 use Rattle.boxes.specs.Boxes.{hidden}
+use Rattle.hiding.specs.Hiding.{BoxesLie, BoxesPainted}
 use Rattle.filter.specs.Seen.{View, turned}
 use Rattle.filter.specs.Filters.{pass, eroded, dilationBack, dilated, opened, closed, operated, recipeBoxes}
 use Rattle.filter.specs.Work.{passWork, erosionWork, dilationWork, workOf}
-use Rattle.filter.specs.Engine.{neutral, orNeutral, Absent, Bytes, Shows, steepOf, fallsOf, layoutOf, backOf, passed, passCost, gridOf, placeOf, Held, Painted, BoxesLie, Fair, Runs, PassDone}
+use Rattle.filter.specs.Engine.{neutral, orNeutral, Absent, Bytes, Shows, steepOf, fallsOf, layoutOf, backOf, passed, passCost, gridOf, placeOf, Held, Fair, Runs, PassDone}
 use Rattle.filter.proofs.Bridge.{bridge}
 use Rattle.filter.proofs.Charges.{work}
 use Rattle.filter.proofs.Grids.{grid-sized}
@@ -62,7 +63,7 @@ column-as lay c r h = h
 
 -- ---- one pass
 
-module _ (how : Recipe) (ok : Fair (how .segment)) (width height : ℕ) (lie : BoxesLie how width height) (low : Bool) where
+module _ (how : Recipe) (ok : Fair (how .segment)) (width height : ℕ) (lie : BoxesLie (recipeBoxes how) (layoutOf how width height)) (low : Bool) where
   abbrev W : ℕ
   W = acrossOf (steepOf how) width height
 
@@ -80,7 +81,7 @@ module _ (how : Recipe) (ok : Fair (how .segment)) (width height : ℕ) (lie : B
   unfolding compactAt compactColumn
   place-is c r = refl
 
-  module _ (old mid new : List ℕ) (count : ℕ) (painted : Painted (recipeBoxes how) (layoutOf how width height) (neutral low) old mid) (swept : Passed g mid new count) where
+  module _ (old mid new : List ℕ) (count : ℕ) (painted : BoxesPainted (recipeBoxes how) (layoutOf how width height) (neutral low) old mid) (swept : Passed g mid new count) where
     -- the page that the sweeps see
     abbrev f : Page
     f R x = getD mid (0 + (R * W + x)) 0
@@ -166,10 +167,10 @@ two-pages how width height low n h = omega (arith, sides-product (steepOf how) w
 
 painted-as :
     (how : Recipe) (lay : Layout) (value : ℕ) (low : Bool) (old mid : List ℕ) → lay ≡ layoutOf how (lay .width) (lay .height)
-    → value ≡ neutral low → Painted (recipeBoxes how) lay value old mid
-    → Painted (recipeBoxes how) (layoutOf how (lay .width) (lay .height)) (neutral low) old mid
+    → value ≡ neutral low → BoxesPainted (recipeBoxes how) lay value old mid
+    → BoxesPainted (recipeBoxes how) (layoutOf how (lay .width) (lay .height)) (neutral low) old mid
 painted-as how lay value low old mid el ev painted =
-    subst₂ (λ (l : Layout) (v : ℕ). Painted (recipeBoxes how) l v old mid) el ev painted
+    subst₂ (λ (l : Layout) (v : ℕ). BoxesPainted (recipeBoxes how) l v old mid) el ev painted
 
 passed-as : (g h : Grid) (old new : List ℕ) (count : ℕ) → g ≡ h → Passed g old new count → Passed h old new count
 passed-as g h old new count e swept = subst (λ (q : Grid). Passed q old new count) e swept
@@ -185,18 +186,18 @@ pass-asks how lay profile reaches room runs low g is n same =
       two-pages how (lay .width) (lay .height) low n (omega (arith, runs .two-pages)),
     )
   where
-    lie : BoxesLie how (lay .width) (lay .height)
+    lie : BoxesLie (recipeBoxes how) lay
     lie = runs .boxes
 
 -- a pass over a page laid out so
 pub pass-done-as :
     (how : Recipe) (lay : Layout) (profile reaches : List ℕ) (room : ℕ) → Runs how lay profile reaches room → (low : Bool) (g : Grid)
     → g ≡ gridOf how (lay .width) (lay .height) low → (value : ℕ) → value ≡ neutral low → (old mid new : List ℕ) (count : ℕ)
-    → Painted (recipeBoxes how) lay value old mid → Passed g mid new count
+    → BoxesPainted (recipeBoxes how) lay value old mid → Passed g mid new count
     → PassDone how lay (passed how low) (passCost how lay low) 3 old new count
 pass-done-as how lay profile reaches room runs low g is value ev old mid new count painted swept =
     subst (λ (l : Layout). PassDone how l (passed how low) (passCost how l low) 3 old new count) (sym (runs .laid))
-    (pass-done how (runs .segment) (lay .width) (lay .height) (runs .boxes) low old mid new count
+    (pass-done how (runs .segment) (lay .width) (lay .height) (subst (BoxesLie (recipeBoxes how)) (runs .laid) (runs .boxes)) low old mid new count
     (painted-as how lay value low old mid (runs .laid) ev painted)
     (passed-as g (gridOf how (lay .width) (lay .height) low) mid new count is swept))
 
@@ -310,8 +311,8 @@ pub runs-as : (how : Recipe) (lay : Layout) (profile reaches : List ℕ) (n m : 
 runs-as how lay profile reaches n m e runs = subst (Runs how lay profile reaches) (sym e) runs
 
 -- how many pixels a page may have
-pub pixels-most : (how : Recipe) (width height : ℕ) → BoxesLie how width height → width * height ≤ 67108864
-pixels-most how width height lie =
-    let rows : width * height ≤ width * 8192 = mul-le-mul-left width (lie .height-most) in
-    let columns : width * 8192 ≤ 8192 * 8192 = mul-le-mul-right 8192 (lie .width-most) in
+pub pixels-most : (how : Recipe) (lay : Layout) → BoxesLie (recipeBoxes how) lay → lay .width * lay .height ≤ 67108864
+pixels-most how lay lie =
+    let rows : lay .width * lay .height ≤ lay .width * 8192 = mul-le-mul-left (lay .width) (lie .height-most) in
+    let columns : lay .width * 8192 ≤ 8192 * 8192 = mul-le-mul-right 8192 (lie .width-most) in
     omega arith

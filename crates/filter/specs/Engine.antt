@@ -7,12 +7,12 @@ use mathlib.Core.Option.{Option, none, some}
 use mathlib.Core.List.{List}
 use Prim.Native.Nat.{ℕ, _+_, _-_, _*_, _≤_, _<_}
 use lib.ListN.{length, getD}
-use Rattle.boxes.specs.Boxes.{hidden, boxAllowed}
+use Rattle.boxes.specs.Boxes.{hidden}
 use Rattle.geometry.specs.Line.{period}
 use Rattle.geometry.specs.Drift.{Allowed, falls, mirrored, drift, reach}
 use Rattle.runs.specs.Grid.{Page, Tabled}
 use Rattle.runs.specs.declared.Grid.{Grid}
-use Rattle.ticket.specs.declared.HiddenBox.{HiddenBox}
+use Rattle.hiding.specs.Hiding.{BoxesLie}
 use Rattle.tray.specs.Placement.{pixelIn}
 use Rattle.tray.specs.Promises.{Placed}
 use Rattle.tray.specs.Turned.{acrossOf, downOf, compactHeight, compactWidth, compactAt}
@@ -99,28 +99,6 @@ pub record Held (how : Recipe) (width height : ℕ) (page : View) (scratch : Lis
       (r : ℕ) → r < height → (c : ℕ) → c < width → hidden (recipeBoxes how) c r ≡ false
       → turned (steepOf how) page c r ≡ some (getD scratch (placeOf how width height c r) 0)
 
--- ---- boxes painted over the page in the scratch
-
--- every box of the recipe lies on the page
-pub record BoxesLie (how : Recipe) (width height : ℕ) : Type 0 where
-  pub count-most : how .count ≤ 64
-  pub places : length (how .boxes) ≡ 64
-  pub wide : 1 ≤ width
-  pub high : 1 ≤ height
-  pub width-most : width ≤ 8192
-  pub height-most : height ≤ 8192
-  pub each : (k : ℕ) (b : HiddenBox) → k < how .count → boxAllowed width height (getD (how .boxes) k b) ≡ true
-
--- the pixels that one of the boxes hides hold the value, every other byte is as it was
-pub record Painted (boxes : List HiddenBox) (lay : Layout) (value : ℕ) (before after : List ℕ) : Type 0 where
-  pub same-length : length after ≡ length before
-  pub hides :
-      (r : ℕ) → r < lay .height → (c : ℕ) → c < lay .width → hidden boxes c r ≡ true → getD after (compactAt lay c r) 0 ≡ value
-  pub shows :
-      (r : ℕ) → r < lay .height → (c : ℕ) → c < lay .width → hidden boxes c r ≡ false
-      → getD after (compactAt lay c r) 0 ≡ getD before (compactAt lay c r) 0
-  pub rest : (i : ℕ) → lay .width * lay .height ≤ i → getD after i 0 ≡ getD before i 0
-
 -- ---- one pass
 
 -- a segment within its limits
@@ -134,7 +112,8 @@ pub record Fair (s : Segment) : Type 0 where
 pub record Runs (how : Recipe) (lay : Layout) (profile reaches : List ℕ) (room : ℕ) : Type 0 where
   pub segment : Fair (how .segment)
   pub laid : lay ≡ layoutOf how (lay .width) (lay .height)
-  pub boxes : BoxesLie how (lay .width) (lay .height)
+  pub count-most : how .count ≤ 64
+  pub boxes : BoxesLie (recipeBoxes how) lay
   pub tables : (low : Bool) → Tabled (gridOf how (lay .width) (lay .height) low) profile reaches
   pub two-pages : lay .width * lay .height + lay .width * lay .height ≤ room
 
@@ -160,7 +139,8 @@ pub record Enters (how : Recipe) (from : Placement) (source scratch : ℕ) : Typ
   pub segment : Fair (how .segment)
   pub operation-from : 1 ≤ how .operation
   pub operation-to : how .operation ≤ 4
-  pub boxes : BoxesLie how (from .width) (from .height)
+  pub count-most : how .count ≤ 64
+  pub boxes : BoxesLie (recipeBoxes how) (layoutOf how (from .width) (from .height))
   pub from-tray : Placed from source
   pub room : from .width * from .height + from .width * from .height ≤ scratch
 

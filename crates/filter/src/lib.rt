@@ -5,8 +5,6 @@
 //
 //     page     a placed page filtered into a placed page: filter
 //     passes   the four filters, of one pass or two, over the page in the scratch
-//     hide     boxes painted over the page in the scratch
-mod hide;
 pub mod page;
 mod passes;
 

@@ -7,7 +7,6 @@ ghost use Rattle.tray.specs.Turned.{compactHeight};
 ghost use Rattle.filter.specs.Engine.{layoutOf, Tables, Enters, Ready};
 ghost use Rattle.filter.specs.Promises.{Fits, Filtered};
 use super::Recipe;
-use super::hide::hide;
 use super::passes;
 use tray::Layout;
 use tray::Placement;
@@ -46,7 +45,7 @@ fn filter_in(
 {
     tray::turn::page_in(source, from, lay, scratch);
     let work = passes::filter_held(how, lay, profile, reaches, scratch);
-    hide(how, lay, scratch, how.white);
+    passes::hide_all(how, lay, scratch, how.white);
     work
 }
 

@@ -3,14 +3,15 @@ ghost use mathlib.Core.Path.{_≡_};
 ghost use Prim.Native.Nat.{_+_, _*_, _≤_, _<_};
 ghost use lib.ListN.{length};
 ghost use Rattle.geometry.specs.Drift.{Allowed};
-ghost use Rattle.filter.specs.Filters.{operated};
+ghost use Rattle.hiding.specs.Hiding.{Hideable, BoxesPainted};
+ghost use Rattle.filter.specs.Filters.{operated, recipeBoxes};
 ghost use Rattle.filter.specs.Work.{workOf};
 ghost use Rattle.filter.specs.Engine.{neutral, steepOf, fallsOf, layoutOf, backOf, gridOf, Fair, Runs, PassDone};
 ghost use Rattle.filter.specs.Engine.{passed, passCost};
 use super::Recipe;
 use super::Segment;
-use super::hide::hide;
 use geometry::Line;
+use hiding::hide_first;
 use runs::Grid;
 use tray::Layout;
 
@@ -96,6 +97,15 @@ fn grid_of(how: Recipe, lay: Layout, low: bool) -> Grid
     }
 }
 
+// Every pixel that a box of the recipe hides takes the value: the boxes go on as one lent list.
+pub fn hide_all(how: Recipe, lay: Layout, scratch: &mut [u8], value: u8)
+    requires { ⌜ (how .count ≤ 64) × Hideable (recipeBoxes how) lay (length (now scratch)) ⌝ }
+    ensures { λ _. ⌜ BoxesPainted (recipeBoxes how) lay value (now (scratch .entry)) (now (scratch .exit)) ⌝ }
+{
+    let boxes = how.boxes;
+    hide_first(boxes, how.count, lay, scratch, value);
+}
+
 // One pass: hidden pixels are absent, every other becomes its window's extreme. It answers the comparisons.
 fn one_pass(
     how: Recipe,
@@ -109,7 +119,7 @@ fn one_pass(
     ensures { λ r. ⌜ PassDone how lay (passed how low) (passCost how lay low) 3 (now (scratch .entry)) (now (scratch .exit)) r ⌝ }
 {
     let absent = neutral_of(low);
-    hide(how, lay, scratch, absent);
+    hide_all(how, lay, scratch, absent);
     let g = grid_of(how, lay, low);
     sweep::rows::pass(g, profile, reaches, scratch)
 }

@@ -8,20 +8,20 @@ use native.Mathlib.Omega.{arith}
 use lib.ListN.{length, getD, take}
 use lib.Seq.{take-suc}
 use Rattle.ticket.specs.declared.HiddenBox.{HiddenBox}
-use Rattle.tray.specs.Turned.{Within, boxed}
-use Rattle.tray.specs.Promises.{OnPage, BoxPainted}
-use Rattle.tray.specs.declared.boxes.Rectangle.{Rectangle}
+use Rattle.tray.specs.Turned.{compactAt, InRectangle, boxed}
+use Rattle.tray.specs.Promises.{RectangleFits, BoxPainted}
+use Rattle.tray.specs.declared.Rectangle.{Rectangle}
 use Rattle.boxes.specs.Boxes.{covers, hidden, boxAllowed}
 use Rattle.boxes.specs.Laws.{covers-inside, inside-covers, hidden-append, allowed-lies}
-use Rattle.hiding.specs.declared.Layout.{Layout}
-use Rattle.hiding.specs.Hiding.{area, placeOn, BoxesLie, Hideable, BoxesPainted}
+use Rattle.tray.specs.declared.Layout.{Layout}
+use Rattle.hiding.specs.Hiding.{area, BoxesLie, Hideable, BoxesPainted}
 
 -- ---- a box as a rectangle
 
 abbrev pub rectangle : HiddenBox → Rectangle
 rectangle b = boxed (b .left) (b .top) (b .width) (b .height)
 
-covers-within : (b : HiddenBox) (c r : ℕ) → covers b c r ≡ true → Within (rectangle b) r c
+covers-within : (b : HiddenBox) (c r : ℕ) → covers b c r ≡ true → InRectangle (rectangle b) r c
 unfolding boxed
 covers-within b c r e =
     let i = covers-inside b c r e in
@@ -32,7 +32,7 @@ covers-within b c r e =
       before-right = i .before-right;
     }
 
-within-covers : (b : HiddenBox) (c r : ℕ) → Within (rectangle b) r c → covers b c r ≡ true
+within-covers : (b : HiddenBox) (c r : ℕ) → InRectangle (rectangle b) r c → covers b c r ≡ true
 unfolding boxed
 within-covers b c r w =
     inside-covers b c r
@@ -43,7 +43,7 @@ within-covers b c r w =
       before-bottom = w .above-bottom;
     })
 
-pub on-page : (w h : ℕ) (b : HiddenBox) → boxAllowed w h b ≡ true → 1 ≤ w → 1 ≤ h → OnPage (rectangle b) w h
+pub on-page : (w h : ℕ) (b : HiddenBox) → boxAllowed w h b ≡ true → 1 ≤ w → 1 ≤ h → RectangleFits (rectangle b) w h
 unfolding boxed
 on-page w h b e wide high =
     let lies = allowed-lies w h b e in
@@ -75,9 +75,9 @@ module _ (lay : Layout) (value : ℕ) where
 
   pub painted-one :
       (b : HiddenBox) (old new : List ℕ)
-      → BoxPainted (lay .steep) (lay .falls) (lay .width) (lay .height) (rectangle b) value old new
+      → BoxPainted lay (rectangle b) value old new
       → BoxesPainted (b ∷ []) lay value old new
-  unfolding hidden placeOn area
+  unfolding hidden
   painted-one b old new box =
       record {
         same-length = box .size;
@@ -92,7 +92,7 @@ module _ (lay : Layout) (value : ℕ) where
     -- a pixel that the boxes before hid, or these do
     hides-case :
         (before here : Bool) (c r : ℕ) → hidden xs c r ≡ before → hidden ys c r ≡ here → before || here ≡ true
-        → r < lay .height → c < lay .width → getD new (placeOn lay c r) 0 ≡ value
+        → r < lay .height → c < lay .width → getD new (compactAt lay c r) 0 ≡ value
     hides-case before true c r was is either r-in c-in = more .hides r r-in c c-in is
     hides-case before false c r was is either r-in c-in =
         more .shows r r-in c c-in is ∙ done .hides r r-in c c-in (was ∙ sym (or-false before) ∙ either)

@@ -9,15 +9,11 @@ use lib.ListN.{length, getD}
 use Rattle.ticket.specs.declared.HiddenBox.{HiddenBox}
 use Rattle.tray.specs.Turned.{compactAt}
 use Rattle.boxes.specs.Boxes.{hidden, boxAllowed}
-use Rattle.hiding.specs.declared.Layout.{Layout}
+use Rattle.tray.specs.declared.Layout.{Layout}
 
 -- how many bytes the compact page has
-unfoldable pub area : Layout → ℕ
+abbrev pub area : Layout → ℕ
 area lay = lay .width * lay .height
-
--- a pixel's byte on the compact page
-unfoldable pub placeOn : Layout → ℕ → ℕ → ℕ
-placeOn lay c r = compactAt (lay .steep) (lay .falls) (lay .width) (lay .height) c r
 
 -- the page's sides are within their limits, and every box lies on the page
 pub record BoxesLie (boxes : List HiddenBox) (lay : Layout) : Type 0 where
@@ -36,8 +32,8 @@ pub record Hideable (boxes : List HiddenBox) (lay : Layout) (bytes : ℕ) : Type
 pub record BoxesPainted (boxes : List HiddenBox) (lay : Layout) (value : ℕ) (before after : List ℕ) : Type 0 where
   pub same-length : length after ≡ length before
   pub hides :
-      (r : ℕ) → r < lay .height → (c : ℕ) → c < lay .width → hidden boxes c r ≡ true → getD after (placeOn lay c r) 0 ≡ value
+      (r : ℕ) → r < lay .height → (c : ℕ) → c < lay .width → hidden boxes c r ≡ true → getD after (compactAt lay c r) 0 ≡ value
   pub shows :
       (r : ℕ) → r < lay .height → (c : ℕ) → c < lay .width → hidden boxes c r ≡ false
-      → getD after (placeOn lay c r) 0 ≡ getD before (placeOn lay c r) 0
+      → getD after (compactAt lay c r) 0 ≡ getD before (compactAt lay c r) 0
   pub rest : (i : ℕ) → area lay ≤ i → getD after i 0 ≡ getD before i 0

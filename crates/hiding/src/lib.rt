@@ -9,15 +9,8 @@ ghost use Rattle.tray.specs.Turned.{boxed};
 ghost use Rattle.boxes.specs.Boxes.{boxAllowed};
 ghost use Rattle.hiding.specs.Hiding.{Hideable, BoxesPainted};
 use ticket::HiddenBox;
-use tray::boxes::Rectangle;
-
-// How the compact page lies: whether its rows are the page's columns, whether it is mirrored, and the page's sides.
-pub struct Layout {
-    pub steep: bool,
-    pub falls: bool,
-    pub width: usize,
-    pub height: usize,
-}
+use tray::Layout;
+use tray::Rectangle;
 
 // A box as some rows and columns of the page.
 fn rectangle_of(b: HiddenBox, width: usize, height: usize) -> Rectangle
@@ -38,7 +31,7 @@ pub fn hide_one(b: HiddenBox, lay: Layout, page: &mut [u8], value: u8)
     ensures { λ _. ⌜ BoxesPainted (b ∷ []) lay value (now (page .entry)) (now (page .exit)) ⌝ }
 {
     let x = rectangle_of(b, lay.width, lay.height);
-    tray::boxes::paint_box(page, lay.steep, lay.falls, lay.width, lay.height, x, value);
+    tray::boxes::paint_box(page, lay, x, value);
 }
 
 // Every pixel that one of the lent boxes hides takes the value; every other byte is as it was.

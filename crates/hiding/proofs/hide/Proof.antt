@@ -56,12 +56,12 @@ use Rattle.ticket.specs.declared.HiddenBox.{HiddenBox}
 use Rattle.ticket.specs.Reading.{noBox}
 use Rattle.ticket.proofs.HiddenBox as T
 use Rattle.ticket.proofs.HiddenBox.Laws as T′
-use Rattle.hiding.specs.declared.Layout.{Layout}
+use Rattle.tray.specs.declared.Layout.{Layout}
 use Rattle.hiding.specs.Hiding.{Hideable, BoxesPainted}
 use Rattle.hiding.proofs.Page.{ref, Page, page-in, page-out}
 use Rattle.hiding.proofs.Painting.{painted-none, painted-more, hideable-one}
-use Rattle.hiding.proofs.Layout as L
-use Rattle.hiding.proofs.Layout.Laws as L′
+use Rattle.tray.proofs.Layout as L
+use Rattle.tray.proofs.Layout.Laws as L′
 use Rattle.hiding.proofs.hide_one as one
 use Rattle.hiding.proofs.hide_one.Symbol as one-def
 use Rattle.hiding.proofs.hide_one.Symbol.{name as #hide-one}

@@ -56,11 +56,11 @@ use borrow.Rule.Slice.Lend.{keptF, sl-relend, sl-relent-backˡ}
 use Rattle.ticket.specs.declared.HiddenBox.{HiddenBox}
 use Rattle.ticket.proofs.HiddenBox as T
 use Rattle.ticket.proofs.HiddenBox.Laws as T′
-use Rattle.hiding.specs.declared.Layout.{Layout}
+use Rattle.tray.specs.declared.Layout.{Layout}
 use Rattle.hiding.specs.Hiding.{Hideable, BoxesPainted}
 use Rattle.hiding.proofs.Page.{ref, Page, page-in, page-out}
-use Rattle.hiding.proofs.Layout as L
-use Rattle.hiding.proofs.Layout.Laws as L′
+use Rattle.tray.proofs.Layout as L
+use Rattle.tray.proofs.Layout.Laws as L′
 use Rattle.hiding.proofs.hide as hide
 use Rattle.hiding.proofs.hide.Symbol as hide-def
 use Rattle.hiding.proofs.hide.Symbol.{name as #hide}

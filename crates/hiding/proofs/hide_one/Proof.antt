@@ -4,8 +4,8 @@ use Prim.Native.Nat.{ℕ, _*_, _≤_}
 use native.Mathlib.Omega.{arith}
 use denote.Ref.{now}
 use Rattle.ticket.specs.Reading.{noBox}
-use Rattle.tray.specs.Promises.{OnPage, BoxPainted}
-use Rattle.tray.specs.declared.boxes.Rectangle.{Rectangle}
+use Rattle.tray.specs.Promises.{RectangleFits, BoxPainted}
+use Rattle.tray.specs.declared.Rectangle.{Rectangle}
 use Rattle.hiding.specs.Hiding.{area}
 use Rattle.hiding.proofs.Painting.{on-page, painted-one}
 use Rattle.hiding.proofs.hide_one.Statement.{statement}
@@ -17,11 +17,10 @@ rectangle-of-requires c κs =
     (lie .each 0 noBox (omega arith), lie .width-most, lie .height-most)
 
 paint-box-requires : tie.Need-paint-box-requires
-unfolding area
 paint-box-requires c κs =
     let start = c .before .before .before in
     let lie = start .pre .lie in (
-      subst (λ (x : Rectangle). OnPage x (start .args .lay .width) (start .args .lay .height))
+      subst (λ (x : Rectangle). RectangleFits x (start .args .lay .width) (start .args .lay .height))
           (sym (c .before .rectangle-of .ensures)) (on-page _ _ _ (lie .each 0 noBox (omega arith)) (lie .wide) (lie .high)),
       start .pre .room,
     )
@@ -35,7 +34,7 @@ returns c =
     painted-one (a .lay) (a .value) (a .b) (now (a .page)) (c .before .before .paint-box .last .0)
     (subst
     (λ (x : Rectangle).
-    BoxPainted (a .lay .steep) (a .lay .falls) (a .lay .width) (a .lay .height) x (a .value) (now (a .page)) (c .before .before .paint-box .last .0))
+    BoxPainted (a .lay) x (a .value) (now (a .page)) (c .before .before .paint-box .last .0))
     (c .before .before .before .before .rectangle-of .ensures)
     (c .before .before .paint-box .ensures))
 

@@ -21,13 +21,19 @@ filter-held-requires c κs =
       (pre .0 .operation-from, pre .0 .operation-to),
     )
 
-hide-requires : tie.Need-hide-requires
-hide-requires c κs =
+hide-all-requires : tie.Need-hide-all-requires
+hide-all-requires c κs =
     let start = c .before .before .before .before .before .before .before .before .before .before .before .before .before in
     let a = start .args in
-    let pre = start .pre in (
-      boxes-lie (a .how) (a .from) (a .lay) (pre .1 .0) _ _ (pre .0),
-      omega (arith, room-one (a .how) (a .from) (a .lay) (pre .1 .0) _ _ (pre .0), c .before .before .before .before .before .before .before .page-in .ensures .size, c .before .before .before .filter-held .ensures .same-length),
+    let pre = start .pre in
+    (
+      pre .0 .count-most,
+      record {
+        lie = boxes-lie (a .how) (a .from) (a .lay) (pre .1 .0) _ _ (pre .0);
+        room =
+            omega
+            (arith, room-one (a .how) (a .from) (a .lay) (pre .1 .0) _ _ (pre .0), c .before .before .before .before .before .before .before .page-in .ensures .size, c .before .before .before .filter-held .ensures .same-length);
+      },
     )
 
 returns : tie.Need-returns
@@ -36,8 +42,8 @@ returns c =
     ready-as (start .args .how) (start .args .from) (start .args .lay) (start .pre .1 .0) (start .args .source .now) (λ k. c .before .before .before .before .before .before .before .before .before .before .before .before .before .before .before .shared-slice-known .given k .fits) _ _ _ _ _
     (c .before .before .before .before .before .before .before .before .before .before .page-in .ensures)
     (c .before .before .before .before .before .before .filter-held .ensures)
-    (c .before .before .hide .ensures)
+    (c .before .before .hide-all .ensures)
 
 pub filter-in-spec : {M : Type 1} → statement M
 filter-in-spec =
-    tie.close (tie.spec page-in-requires filter-held-requires hide-requires (λ c. search needs) returns)
+    tie.close (tie.spec page-in-requires filter-held-requires hide-all-requires (λ c. search needs) returns)

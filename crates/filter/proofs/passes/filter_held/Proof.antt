@@ -28,7 +28,7 @@ one-pass-requires-4 c κs = runs-as _ _ _ _ _ _ (c .before .before .before .one-
 add-result : tie.Need-add-result
 add-result c =
     let lie = c .before .before .before .before .before .before .before .before .before .before .before .before .before .pre .0 .boxes in
-    record { fits = omega (arith, c .before .before .before .before .before .before .one-pass3 .ensures .few, c .before .before .one-pass4 .ensures .few, pixels-most _ _ _ lie) }
+    record { fits = omega (arith, c .before .before .before .before .before .before .one-pass3 .ensures .few, c .before .before .one-pass4 .ensures .few, pixels-most _ _ lie) }
 
 returns-3 : tie.Need-returns-3
 returns-3 c =
