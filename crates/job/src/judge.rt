@@ -1,105 +1,79 @@
-// Refusals 10 to 14: whether a job's pages and boxes lie where they may.
+// Refusals 10 to 14: whether a job's pages and boxes lie where they may. Each is a test of its own, so that a call that has no output
+// page can leave its test out.
 ghost use mathlib.Core.Path.{_≡_};
-ghost use mathlib.Core.Bool.{_&&_};
-ghost use Prim.Native.Nat.{_+_, _≤_};
-ghost use lib.ListN.{length, take};
-ghost use lib.Dec.{leb};
-ghost use Rattle.tray.specs.Placement.{scratchNeeded};
-ghost use Rattle.filter.specs.Job.{sourcePage, outputPage, boxAllowed, judgeBoxes, placed};
-use super::Placements;
-use answer::Answer;
-use ticket::HiddenBox;
+ghost use Prim.Native.Nat.{_≤_};
+ghost use Rattle.tray.specs.Placement.{longestSide, mostPages};
+ghost use Rattle.boxes.specs.Boxes.{boxesOf};
+ghost use Rattle.job.specs.Judging.{judgeSides, judgeSource, judgeOutput, judgeScratch, judgeBoxes, judgePlaces};
+use super::Lengths;
+use super::order::pages_of;
+use refusal::Answer;
+use refusal::Refusal;
+use refusal::chain::first_refusal;
+use refusal::chain::refuse_unless;
+use refusal::report::is_done;
 use ticket::Ticket;
-use tray::Placement;
+use tray::Placements;
+use tray::place;
 
-// Whether a box's side lies within the page's: over whole numbers, as 65535 + 2 must not look small.
-fn side_fits(from: usize, length: usize, side: usize) -> bool
-    ensures { λ r. ⌜ r ≡ leb (from + length) side ⌝ }
+// 10: both pages are within the limits.
+pub fn judge_sides(p: Placements) -> Answer
+    ensures { λ r. ⌜ r ≡ judgeSides p ⌝ }
 {
-    if side < length {
-        return false;
-    }
-    from <= side - length
+    let from = place::is_allowed(place::source_page(p));
+    let to = place::is_allowed(place::output_page(p));
+    refuse_unless(from && to, Refusal::BadSides, 0)
 }
 
-fn both(a: bool, b: bool) -> bool
-    ensures { λ r. ⌜ r ≡ a && b ⌝ }
+// 11: the source page fits its tray.
+pub fn judge_source(p: Placements, length: usize) -> Answer
+    ensures { λ r. ⌜ r ≡ judgeSource p length ⌝ }
 {
-    if a {
-        return b;
-    }
-    false
+    let fits = place::does_fit(place::source_page(p), length);
+    refuse_unless(fits, Refusal::SourceTooShort, 0)
 }
 
-// Whether a box has no zero side and lies on the page.
-fn box_allowed(width: usize, height: usize, b: HiddenBox) -> bool
-    ensures { λ r. ⌜ r ≡ boxAllowed width height b ⌝ }
+// 12: the output page fits its tray.
+pub fn judge_output(p: Placements, length: usize) -> Answer
+    ensures { λ r. ⌜ r ≡ judgeOutput p length ⌝ }
 {
-    let some = both(1 <= b.width, 1 <= b.height);
-    let across = side_fits(b.left, b.width, width);
-    let down = side_fits(b.top, b.height, height);
-    both(some, both(across, down))
+    let fits = place::does_fit(place::output_page(p), length);
+    refuse_unless(fits, Refusal::OutputTooShort, 0)
 }
 
-// Refusal 14 for the first box that is not allowed.
-fn judge_boxes(boxes: [HiddenBox; 64], count: usize, width: usize, height: usize) -> Answer
-    requires { ⌜ (count ≤ 64) × (length boxes ≡ 64) ⌝ }
-    ensures { λ r. ⌜ r ≡ judgeBoxes width height (take count boxes) 0 (Answer.Done 0) ⌝ }
+// 13: the scratch has room for so many pages of these sides, which are within their limits.
+pub fn judge_scratch(pages: usize, width: usize, height: usize, length: usize) -> Answer
+    requires { ⌜ (pages ≤ mostPages) × (width ≤ longestSide) × (height ≤ longestSide) ⌝ }
+    ensures { λ r. ⌜ r ≡ judgeScratch pages width height length ⌝ }
 {
-    let mut k: usize = 0;
-    while k < count {
-        let b = boxes[k];
-        if !box_allowed(width, height, b) {
-            return Answer::BadBox(k);
-        }
-        k += 1;
+    let needed = place::scratch_needed(pages, width, height);
+    refuse_unless(needed <= length, Refusal::ScratchTooShort, 0)
+}
+
+// 14: every box of the ticket lies on the page; the place is the first one that does not.
+pub fn judge_boxes(t: Ticket, width: usize, height: usize) -> Answer
+    requires { ⌜ t .count ≤ 64 ⌝ }
+    ensures { λ r. ⌜ r ≡ judgeBoxes width height (boxesOf t) ⌝ }
+{
+    let first = boxes::first_refused(t, width, height);
+    if first < t.count {
+        return Answer::Refused(Refusal::BadBox, first);
     }
     Answer::Done(0)
 }
 
-pub fn source_page(p: Placements) -> Placement
-    ensures { λ r. ⌜ r ≡ sourcePage p ⌝ }
+// The first of refusals 10 to 14; without one it is done, with no work yet. The scratch is judged only for sides within their limits.
+pub fn judge(t: Ticket, p: Placements, n: Lengths) -> Answer
+    requires { ⌜ t .count ≤ 64 ⌝ }
+    ensures { λ r. ⌜ r ≡ judgePlaces t p n ⌝ }
 {
-    let spot = p.source;
-    Placement {
-        offset: spot.offset,
-        width: p.width,
-        height: p.height,
-        stride: spot.stride,
+    let sides = judge_sides(p);
+    if !is_done(sides) {
+        return sides;
     }
-}
-
-pub fn output_page(p: Placements) -> Placement
-    ensures { λ r. ⌜ r ≡ outputPage p ⌝ }
-{
-    let spot = p.output;
-    Placement {
-        offset: spot.offset,
-        width: p.width,
-        height: p.height,
-        stride: spot.stride,
-    }
-}
-
-// The first of refusals 10 to 14, or a finished page of no work yet.
-pub fn judge(t: Ticket, p: Placements, source: usize, output: usize, scratch: usize) -> Answer
-    requires { ⌜ (t .count ≤ 64) × (length (t .boxes) ≡ 64) ⌝ }
-    ensures { λ r. ⌜ r ≡ placed t p (record { source = source; output = output; scratch = scratch }) (Answer.Done 0) ⌝ }
-{
-    let from = source_page(p);
-    let to = output_page(p);
-    if !both(tray::place::is_allowed(from), tray::place::is_allowed(to)) {
-        return Answer::BadSides;
-    }
-    if !tray::place::does_fit(from, source) {
-        return Answer::SourceTooShort;
-    }
-    if !tray::place::does_fit(to, output) {
-        return Answer::OutputTooShort;
-    }
-    if scratch < tray::place::scratch_needed(p.width, p.height) {
-        return Answer::ScratchTooShort;
-    }
-    let boxes = t.boxes;
-    judge_boxes(boxes, t.count, p.width, p.height)
+    let source = judge_source(p, n.source);
+    let output = judge_output(p, n.output);
+    let scratch = judge_scratch(pages_of(t), p.width, p.height, n.scratch);
+    let boxes = judge_boxes(t, p.width, p.height);
+    first_refusal(source, first_refusal(output, first_refusal(scratch, boxes)))
 }

@@ -25,8 +25,7 @@ hide-all-requires : tie.Need-hide-all-requires
 hide-all-requires c κs =
     let start = c .before .before .before .before .before .before .before .before .before .before .before .before .before in
     let a = start .args in
-    let pre = start .pre in
-    (
+    let pre = start .pre in (
       pre .0 .count-most,
       record {
         lie = boxes-lie (a .how) (a .from) (a .lay) (pre .1 .0) _ _ (pre .0);

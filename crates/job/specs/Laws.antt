@@ -1,0 +1,115 @@
+-- What a job that nothing refuses may rely on, in plain facts: nobody above unfolds the judging.
+-- Assumes nothing.
+use mathlib.Core.Path.{_≡_, refl, sym, ap, _∙_}
+use mathlib.Core.Bool.{Bool, true, false, _&&_, and-eq-true-iff}
+use mathlib.Core.List.{List, [], _∷_}
+use mathlib.Core.Logic.{by-cases}
+use Prim.Native.Nat.{ℕ, zero, suc, _+_, _≤_, _<_}
+use native.Mathlib.Nat.{add-zero, add-suc, suc-add}
+use native.Mathlib.Decide.{decLe}
+use native.Mathlib.Omega.{arith}
+use borrow.Author.Tests.{leb-true}
+use lib.Dec.{leb}
+use lib.ListN.{length, getD}
+use Rattle.refusal.specs.Answer.{isDone}
+use Rattle.refusal.specs.Chain.{unless, _then_, then-done, then-work, unless-done}
+use Rattle.refusal.specs.declared.Answer.{Answer}
+use Rattle.refusal.specs.declared.Answer.the-variants.{Done, Refused}
+use Rattle.refusal.specs.declared.Refusal.the-variants.{BadSides, SourceTooShort, OutputTooShort, ScratchTooShort, BadBox}
+use Rattle.ticket.specs.Judging.{judged}
+use Rattle.ticket.specs.Laws.{Allowed, Bytes, good-allowed}
+use Rattle.ticket.specs.Reading.{shown}
+use Rattle.ticket.specs.declared.HiddenBox.{HiddenBox}
+use Rattle.ticket.specs.declared.Ticket.{Ticket}
+use Rattle.boxes.specs.Boxes.{boxesOf, boxAllowed}
+use Rattle.tray.specs.Placement.{allowed, fits, sourcePage, outputPage, scratchNeeded}
+use Rattle.tray.specs.Laws as tray
+use Rattle.tray.specs.Promises.{Placed}
+use Rattle.tray.specs.declared.Placements.{Placements}
+use Rattle.job.specs.Order.{pagesOf}
+use Rattle.job.specs.Judging.{judgeSides, judgeSource, judgeOutput, judgeScratch, judgeBoxesFrom, judgeBoxes, judgePlaces}
+use Rattle.job.specs.Job.{jobWork, jobScratch, answer}
+use Rattle.job.specs.declared.Lengths.{Lengths}
+
+-- ---- the pages in the scratch
+
+pub pages-least : (t : Ticket) → 2 ≤ pagesOf t
+unfolding pagesOf
+pages-least t = omega arith
+
+pub pages-most : (t : Ticket) → pagesOf t ≤ 3
+unfolding pagesOf
+pages-most t = omega arith
+
+-- ---- every box lies on the page
+
+pub boxes-allowed :
+    (w h k : ℕ) (boxes : List HiddenBox) → isDone (judgeBoxesFrom w h k boxes) ≡ true
+    → (i : ℕ) (d : HiddenBox) → i < length boxes → boxAllowed w h (getD boxes i d) ≡ true
+unfolding judgeBoxesFrom
+boxes-allowed w h k [] done i d below = absurd (omega arith)
+boxes-allowed w h k (b ∷ boxes) done zero d below =
+    unless-done (boxAllowed w h b) BadBox k (then-done (unless (boxAllowed w h b) BadBox k) (judgeBoxesFrom w h (suc k) boxes) done .0)
+boxes-allowed w h k (b ∷ boxes) done (suc i) d below =
+    boxes-allowed w h (suc k) boxes
+    (then-done (unless (boxAllowed w h b) BadBox k) (judgeBoxesFrom w h (suc k) boxes) done .1)
+    i
+    d
+    (omega arith)
+
+-- ---- where the pages stand
+
+pub record Stands (t : Ticket) (p : Placements) (n : Lengths) : Type 0 where
+  pub from : Placed (sourcePage p) (n .source)
+  pub to : Placed (outputPage p) (n .output)
+  pub room : jobScratch t p ≤ n .scratch
+  pub boxes : (i : ℕ) (d : HiddenBox) → i < length (boxesOf t) → boxAllowed (p .width) (p .height) (getD (boxesOf t) i d) ≡ true
+
+pub stands : (t : Ticket) (p : Placements) (n : Lengths) → isDone (judgePlaces t p n) ≡ true → Stands t p n
+unfolding judgePlaces judgeSides judgeSource judgeOutput judgeScratch judgeBoxes jobScratch
+stands t p n done =
+    let boxes : Answer = judgeBoxesFrom (p .width) (p .height) 0 (boxesOf t) in
+    let scratch : Answer = judgeScratch (pagesOf t) (p .width) (p .height) (n .scratch) in
+    let output : Answer = judgeOutput p (n .output) in
+    let source : Answer = judgeSource p (n .source) in
+    let from-sides = then-done (judgeSides p) (source then output then scratch then boxes) done in
+    let from-source = then-done source (output then scratch then boxes) (from-sides .1) in
+    let from-output = then-done output (scratch then boxes) (from-source .1) in
+    let from-scratch = then-done scratch boxes (from-output .1) in
+    let sides = unless-done (allowed (sourcePage p) && allowed (outputPage p)) BadSides 0 (from-sides .0) in
+    let both = and-eq-true-iff (allowed (sourcePage p)) (allowed (outputPage p)) .0 sides in
+    record {
+      from = tray.placed (sourcePage p) (n .source) (both .0) (unless-done (fits (sourcePage p) (n .source)) SourceTooShort 0 (from-source .0));
+      to = tray.placed (outputPage p) (n .output) (both .1) (unless-done (fits (outputPage p) (n .output)) OutputTooShort 0 (from-output .0));
+      room =
+          leb-true _ _
+          (unless-done (leb (scratchNeeded (pagesOf t) (p .width) (p .height)) (n .scratch)) ScratchTooShort 0 (from-scratch .0));
+      boxes = boxes-allowed (p .width) (p .height) 0 (boxesOf t) (from-scratch .1);
+    }
+
+-- ---- a finished job
+
+pub record FinishedJob (ticket : List ℕ) (p : Placements) (n : Lengths) (work : ℕ) : Type 0 where
+  pub read : isDone (judged ticket) ≡ true
+  pub placed : isDone (judgePlaces (shown ticket) p n) ≡ true
+  pub worked : jobWork (shown ticket) (p .width) (p .height) ≡ work
+
+done-work : {a b : ℕ} → Done a ≡ Done b → a ≡ b
+done-work e = cc
+
+pub finished-job : (ticket : List ℕ) (p : Placements) (n : Lengths) (work : ℕ) → answer ticket p n ≡ Done work → FinishedJob ticket p n work
+unfolding answer
+finished-job ticket p n work e =
+    let places : Answer = judgePlaces (shown ticket) p n in
+    let works : Answer = Done (jobWork (shown ticket) (p .width) (p .height)) in
+    let read = then-work (judged ticket) (places then works) work e in
+    let placed = then-work places works work (read .1) in
+    record { read = read .0; placed = placed .0; worked = done-work (placed .1) }
+
+pub finished-stands :
+    (ticket : List ℕ) (p : Placements) (n : Lengths) (work : ℕ) → answer ticket p n ≡ Done work → Stands (shown ticket) p n
+finished-stands ticket p n work e = stands (shown ticket) p n (finished-job ticket p n work e .placed)
+
+pub finished-allowed :
+    (ticket : List ℕ) (p : Placements) (n : Lengths) (work : ℕ) → Bytes ticket → answer ticket p n ≡ Done work → Allowed (shown ticket)
+finished-allowed ticket p n work bytes e = good-allowed ticket bytes (finished-job ticket p n work e .read)

@@ -1,0 +1,5 @@
+pub mod Order
+pub mod Judging
+pub mod Job
+pub mod Finishing
+pub mod Laws

@@ -1,0 +1,47 @@
+// What a ticket orders of the filter.
+ghost use mathlib.Core.Path.{_≡_};
+ghost use Rattle.ticket.specs.Laws.{Allowed};
+ghost use Rattle.job.specs.Order.{recipeOf, pagesOf};
+use filter::Recipe;
+use filter::Segment;
+use geometry::Line;
+use ticket::Ticket;
+
+// "A hidden pixel comes out as 255 in every finished page."
+const WHITE: u8 = 255;
+
+// "line: 1 connected (Bresenham), 2 periodic"
+const PERIODIC: usize = 2;
+
+// The operation along the segment, and the boxes.
+pub fn recipe_of(t: Ticket) -> Recipe
+    requires { ⌜ Allowed t ⌝ }
+    ensures { λ r. ⌜ r ≡ recipeOf t ⌝ }
+{
+    let line = Line {
+        periodic: t.line == PERIODIC,
+        dx: t.dx,
+        dy: t.dy,
+        phase: t.phase,
+    };
+    let segment = Segment {
+        line: line,
+        length: t.length,
+        origin: t.origin,
+    };
+    let boxes = t.boxes;
+    Recipe {
+        operation: t.operation,
+        segment: segment,
+        white: WHITE,
+        count: t.count,
+        boxes: boxes,
+    }
+}
+
+// How many pages a job keeps in the scratch: two, whatever its operation.
+pub fn pages_of(t: Ticket) -> usize
+    ensures { λ r. ⌜ r ≡ pagesOf t ⌝ }
+{
+    2
+}
