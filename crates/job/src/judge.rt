@@ -2,6 +2,7 @@
 // page can leave its test out.
 ghost use mathlib.Core.Path.{_≡_};
 ghost use Prim.Native.Nat.{_≤_};
+ghost use lib.ListN.{length};
 ghost use Rattle.tray.specs.Placement.{longestSide, mostPages};
 ghost use Rattle.boxes.specs.Boxes.{boxesOf};
 ghost use Rattle.job.specs.Judging.{judgeSides, judgeSource, judgeOutput, judgeScratch, judgeBoxes, judgePlaces};
@@ -22,7 +23,7 @@ pub fn judge_sides(p: Placements) -> Answer
 {
     let from = place::is_allowed(place::source_page(p));
     let to = place::is_allowed(place::output_page(p));
-    refuse_unless(from && to, Refusal::BadSides, 0)
+    refuse_unless(from & to, Refusal::BadSides, 0)
 }
 
 // 11: the source page fits its tray.
@@ -52,7 +53,7 @@ pub fn judge_scratch(pages: usize, width: usize, height: usize, length: usize) -
 
 // 14: every box of the ticket lies on the page; the place is the first one that does not.
 pub fn judge_boxes(t: Ticket, width: usize, height: usize) -> Answer
-    requires { ⌜ t .count ≤ 64 ⌝ }
+    requires { ⌜ (t .count ≤ 64) × (length (t .boxes) ≡ 64) ⌝ }
     ensures { λ r. ⌜ r ≡ judgeBoxes width height (boxesOf t) ⌝ }
 {
     let first = boxes::first_refused(t, width, height);
@@ -64,7 +65,7 @@ pub fn judge_boxes(t: Ticket, width: usize, height: usize) -> Answer
 
 // The first of refusals 10 to 14; without one it is done, with no work yet. The scratch is judged only for sides within their limits.
 pub fn judge(t: Ticket, p: Placements, n: Lengths) -> Answer
-    requires { ⌜ t .count ≤ 64 ⌝ }
+    requires { ⌜ (t .count ≤ 64) × (length (t .boxes) ≡ 64) ⌝ }
     ensures { λ r. ⌜ r ≡ judgePlaces t p n ⌝ }
 {
     let sides = judge_sides(p);
