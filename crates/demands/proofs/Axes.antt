@@ -4,8 +4,7 @@ use mathlib.Core.Path.{_≡_, refl}
 use mathlib.Core.Bool.{Bool, true, false}
 use Prim.Native.Nat.{ℕ, _<_}
 use Rattle.tray.specs.Turned.{downOf, acrossOf}
-use Rattle.filter.specs.Seen.{turned}
-use Rattle.filter.specs.Filters.{View}
+use Rattle.filter.specs.Seen.{View, turned}
 
 -- a page by its axes is the page by columns and rows
 pub turned-is :

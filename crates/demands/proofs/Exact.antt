@@ -11,8 +11,8 @@ use Rattle.ticket.specs.Laws.{Allowed}
 use Rattle.ticket.specs.declared.Ticket.{Ticket}
 use Rattle.tray.specs.Promises.{Placed}
 use Rattle.tray.specs.declared.Placement.{Placement}
-use Rattle.filter.specs.Seen.{lineOf}
-use Rattle.filter.specs.Filters.{finished}
+use Rattle.job.specs.Order.{lineOf}
+use Rattle.job.specs.Job.{finished}
 use Rattle.demands.specs.Near.{stepAt, Near}
 use Rattle.demands.specs.Exact.{Clear, Matters, ExactReach}
 use Rattle.demands.proofs.Near.{near-in}

@@ -5,16 +5,15 @@ use mathlib.Core.Path.{_≡_, sym, ap, _∙_}
 use mathlib.Core.List.{List}
 use Prim.Native.Nat.{ℕ, _<_}
 use lib.ListN.{length}
-use Rattle.ticket.specs.Laws.{good-allowed}
+use Rattle.refusal.specs.declared.Answer.the-variants.{Done}
 use Rattle.ticket.specs.Reading.{shown}
-use Rattle.tray.specs.Placement.{pixelIn}
-use Rattle.filter.specs.Filters.{finished}
-use Rattle.filter.specs.Job.{Lengths, sourcePage, outputPage, answer, lengths, outputAfter}
-use Rattle.answer.specs.declared.Answer.the-variants.{Done}
-use Rattle.filter.specs.declared.Placements.{Placements}
+use Rattle.tray.specs.Placement.{pixelIn, sourcePage, outputPage}
+use Rattle.tray.specs.declared.Placements.{Placements}
+use Rattle.job.specs.Job.{finished, answer, lengths, outputAfter}
+use Rattle.job.specs.Laws.{finished-stands, finished-allowed, output-pixel}
+use Rattle.job.specs.declared.Lengths.{Lengths}
 use Rattle.demands.specs.Exact.{ExactJobReach}
 use Rattle.demands.proofs.Same.{same-lengths}
-use Rattle.demands.proofs.Finishing.{finished-job, output-pixel}
 use Rattle.demands.proofs.Exact.{exact-reach}
 
 module _ (ticket : List ℕ) (p : Placements) (n : Lengths) (work c r : ℕ) (done : answer ticket p n ≡ Done work)
@@ -32,10 +31,9 @@ module _ (ticket : List ℕ) (p : Placements) (n : Lengths) (work c r : ℕ) (do
 pub exact-job-reach : ExactJobReach
 unfolding sourcePage
 exact-job-reach ticket p n work c r bytes done operation clear c′ r′ near =
-    let job = finished-job ticket p n work done in
     let x =
-    exact-reach (shown ticket) (sourcePage p) (n .source) c r (good-allowed ticket bytes (job .good)) operation
-    (job .lies .from)
+    exact-reach (shown ticket) (sourcePage p) (n .source) c r (finished-allowed ticket p n work bytes done) operation
+    (finished-stands ticket p n work done .from)
     clear
     c′
     r′

@@ -13,7 +13,8 @@ use Rattle.geometry.specs.Drift.{Sound}
 use Rattle.geometry.specs.Laws.{step-of-major}
 use Rattle.geometry.specs.declared.Line.{Line}
 use Rattle.runs.specs.Span.{best}
-use Rattle.filter.specs.Filters.{View, joined, extreme, valueAt, onLine, inWindow, passAt, pass}
+use Rattle.filter.specs.Seen.{View}
+use Rattle.filter.specs.Filters.{joined, extreme, valueAt, onLine, inWindow, passAt, pass}
 use Rattle.demands.proofs.OnLines.{own-value, same-line}
 use Rattle.demands.proofs.ExactNumbers.{twice}
 

@@ -2,37 +2,37 @@
 -- value in them.
 -- Assumes nothing.
 use mathlib.Core.Path.{_≡_, refl, sym, ap, ap₂, _∙_}
-use mathlib.Core.Bool.{Bool, true, false, not, _&&_, cond}
+use mathlib.Core.Bool.{Bool, true, false, not}
 use mathlib.Core.Logic.{by-cases, inl, inr, _≢_}
-use mathlib.Core.Option.{Option, none, some}
+use mathlib.Core.Option.{Option, some}
 use mathlib.Core.List.{List}
-use Prim.Native.Nat.{ℕ, suc, _+_, _-_, _*_, _≤_, _<_}
+use Prim.Native.Nat.{ℕ, suc, _+_, _-_, _≤_, _<_}
 use native.Mathlib.Decide.{decLt, ℕ-discrete}
 use native.Mathlib.Omega.{arith}
-use borrow.Author.Tests.{lt-ltb}
-use lib.Dec.{eqb}
 use lib.ListN.{length, getD, set, replicate, length-set, length-replicate, getD-replicate, List·getD-eq-default}
 use lib.Seq.{getD-set-same, getD-set-other}
 use Rattle.geometry.specs.Line.{majorAt}
-use Rattle.geometry.specs.Laws.{lands}
+use Rattle.geometry.specs.Laws.{in-page-landing}
 use Rattle.geometry.specs.declared.Line.{Line}
 use Rattle.ticket.specs.Laws.{Allowed}
 use Rattle.ticket.specs.declared.Ticket.{Ticket}
-use Rattle.ticket.specs.declared.HiddenBox.{HiddenBox}
 use Rattle.tray.specs.Placement.{byteOf, pixelIn}
 use Rattle.tray.specs.Promises.{Placed}
 use Rattle.tray.specs.Turned.{downOf, acrossOf}
 use Rattle.tray.specs.Written.{columnOf, rowOf, written}
 use Rattle.tray.specs.Written as tray
-use Rattle.tray.specs.Laws.{byte-is, row-room, across-in, cell-same, length-written, written-at, written-pixel}
+use Rattle.tray.specs.Laws.{byte-below, byte-same, length-written, written-at, written-pixel}
 use Rattle.tray.specs.declared.Placement.{Placement}
-use Rattle.filter.specs.Seen.{boxesOf, hidden, lineOf, seen, turned, runsSteep}
-use Rattle.filter.specs.Filters.{View, valueAt, onLine, pass, orWhite, eroded, dilated, dilationBack, opened, closed}
-use Rattle.filter.specs.Filters.{filtered, finished}
+use Rattle.filter.specs.Seen.{View, runsSteep}
+use Rattle.filter.specs.Filters.{valueAt, onLine, pass, eroded, dilationBack, dilated, opened, closed, operated}
+use Rattle.filter.specs.Filters.{orWhite}
+use Rattle.job.specs.Order.{lineOf, segmentOf, white}
+use Rattle.job.specs.Job.{finished}
+use Rattle.job.specs.Laws.{line-sound}
 use Rattle.demands.specs.Near.{majorPlace, minorPlace, stepAt, FewerSteps, Near}
 use Rattle.demands.specs.Exact.{OpensOrCloses, Clear, ClearSteps}
-use Rattle.demands.proofs.Axes.{turned-is, turned-back, down-back, across-back}
-use Rattle.demands.proofs.OnLines.{line-sound}
+use Rattle.demands.proofs.Axes.{turned-back, down-back, across-back}
+use Rattle.demands.proofs.Pages.{seenIn, alongIn, finished-at, seen-there}
 use Rattle.demands.proofs.Near.{near-in, near-step}
 use Rattle.demands.proofs.ExactNumbers.{winner, winner-small, picked-small, twice, run, run-small, changed}
 use Rattle.demands.proofs.ExactNumbers.{changed-at, changed-else}
@@ -46,22 +46,19 @@ pub record Passes (t : Ticket) : Type 0 where
   pub b : ℕ
   pub sizes : t .length ≡ suc (a + b)
   pub made :
-      (page : View) → filtered t page ≡ pass (not low) (lineOf t) b (t .length) (pass low (lineOf t) a (t .length) page)
-
--- what a ticket's operation makes of a page
-abbrev byOperation : Ticket → ℕ → View → View
-byOperation t o page =
-    cond (eqb o 1) (eroded t page) (cond (eqb o 2) (dilated t page) (cond (eqb o 3) (opened t page) (closed t page)))
+      (page : View)
+      → operated (t .operation) (segmentOf t) page
+      ≡ pass (not low) (lineOf t) b (t .length) (pass low (lineOf t) a (t .length) page)
 
 pub passes : (t : Ticket) → Allowed t → OpensOrCloses t → Passes t
-unfolding filtered opened closed eroded dilated dilationBack
+unfolding operated opened closed eroded dilated dilationBack segmentOf
 passes t ok (inl e) =
     record {
       low = true;
       a = t .origin;
       b = t .length - 1 - t .origin;
       sizes = omega (arith, ok .origin-below);
-      made = λ page. ap (λ (o : ℕ). byOperation t o page) e;
+      made = λ page. ap (λ (n : ℕ). operated n (segmentOf t) page) e;
     }
 passes t ok (inr e) =
     record {
@@ -69,20 +66,10 @@ passes t ok (inr e) =
       a = t .length - 1 - t .origin;
       b = t .origin;
       sizes = omega (arith, ok .origin-below);
-      made = λ page. ap (λ (o : ℕ). byOperation t o page) e;
+      made = λ page. ap (λ (n : ℕ). operated n (segmentOf t) page) e;
     }
 
 -- ---- the line through a clear pixel
-
-seen-there :
-    (boxes : List HiddenBox) (p : Placement) (tray : List ℕ) (c r : ℕ) → c < p .width → r < p .height
-    → hidden boxes c r ≡ false
-    → seen boxes p tray c r ≡ some (pixelIn tray p c r)
-unfolding seen
-seen-there boxes p tray c r c-in r-in shown =
-    ap₂ (λ (one two : Bool). cond ((one && two) && not (hidden boxes c r)) (some (pixelIn tray p c r)) none)
-    (lt-ltb _ _ c-in) (lt-ltb _ _ r-in)
-    ∙ ap (λ (test : Bool). cond (not test) (some (pixelIn tray p c r)) none) shown
 
 -- the steps up to L - 1 on both sides of a clear pixel are near pixels
 pub clear-steps : ClearSteps
@@ -92,9 +79,8 @@ clear-steps t p c r ok clear s few =
     let M : ℕ = majorPlace l c r in
     let H : ℕ = majorPlace l (p .width) (p .height) in
     let W : ℕ = minorPlace l (p .width) (p .height) in
-    let m-in : minorPlace l c r < W = across-in steep c r (p .width) (p .height) (clear .column) (clear .row) in
     let on = clear .on-page s few in
-    let found = lands l (line-sound t ok) H W M (minorPlace l c r) s m-in on in
+    let found = in-page-landing l H W M (minorPlace l c r) s on in
     let M-is = down-back steep (majorAt l M s) (found .at) in
     let m-is = across-back steep (majorAt l M s) (found .at) in
     record {
@@ -112,9 +98,7 @@ clear-steps t p c r ok clear s few =
 -- what the filter sees of a tray along the line through column c, row r
 unfoldable pub valueOn : Ticket → Placement → List ℕ → ℕ → ℕ → ℕ → Option ℕ
 valueOn t p tray c r s =
-    onLine (lineOf t) (turned (runsSteep (lineOf t)) (seen (boxesOf t) p tray)) (majorPlace (lineOf t) c r)
-    (minorPlace (lineOf t) c r)
-    s
+    onLine (lineOf t) (alongIn t p tray) (majorPlace (lineOf t) c r) (minorPlace (lineOf t) c r) s
 
 module _ (t : Ticket) (p : Placement) (c r : ℕ) (ok : Allowed t) (clear : Clear t p c r) where
   -- at a near pixel
@@ -123,27 +107,25 @@ module _ (t : Ticket) (p : Placement) (c r : ℕ) (ok : Allowed t) (clear : Clea
       → valueOn t p tray c r (x .step) ≡ some (pixelIn tray p c′ r′)
   unfolding valueOn onLine valueAt
   on-near tray c′ r′ x =
-      let steep : Bool = runsSteep (lineOf t) in
-      let page : View = seen (boxesOf t) p tray in
       let there = near-in t p c r c′ r′ x in
-      ap₂ (valueAt (turned steep page)) (x .is-step .along) (x .is-step .across)
-      ∙ turned-back steep page c′ r′
-      ∙ seen-there (boxesOf t) p tray c′ r′ (there .0) (there .1) (clear .in-no-box c′ r′ x)
+      ap₂ (valueAt (alongIn t p tray)) (x .is-step .along) (x .is-step .across)
+      ∙ turned-back (runsSteep (lineOf t)) (seenIn t p tray) c′ r′
+      ∙ seen-there t p tray c′ r′ (there .0) (there .1) (clear .in-no-box c′ r′ x)
 
   -- the result, by the numbers of the line
   pub result :
       (tray : List ℕ) (w : Passes t) (f : ℕ → ℕ)
       → ((s : ℕ) → FewerSteps (t .length) (stepAt (lineOf t) c r) s → valueOn t p tray c r s ≡ some (f s))
       → finished t p tray c r ≡ twice (w .low) (w .a) (w .b) f (stepAt (lineOf t) c r)
-  unfolding finished orWhite valueOn
+  unfolding orWhite valueOn
   result tray w f on =
       let l : Line = lineOf t in
       let M : ℕ = majorPlace l c r in
       let m : ℕ = minorPlace l c r in
-      let page : View = turned (runsSteep l) (seen (boxesOf t) p tray) in
-      ap orWhite
-      (turned-is (runsSteep l) (filtered t page) c r
-      ∙ ap (λ (view : View). view M m) (w .made page)
+      let page : View = alongIn t p tray in
+      finished-at t p tray c r
+      ∙ ap (orWhite white)
+      (ap (λ (view : View). view M m) (w .made page)
       ∙ ap (λ (n : ℕ). pass (not (w .low)) l (w .b) n (pass (w .low) l (w .a) n page) M m) (w .sizes)
       ∙ twice-on l (line-sound t ok) M m (w .low) (w .a) (w .b) page f (omega (arith, clear .steps-before, w .sizes))
       (λ s h k. on s (record { back = omega (arith, w .sizes); on = omega (arith, w .sizes) })))
@@ -151,17 +133,6 @@ module _ (t : Ticket) (p : Placement) (c r : ℕ) (ok : Allowed t) (clear : Clea
 -- ---- the two trays
 
 module _ (p : Placement) (n : ℕ) (placed : Placed p n) where
-  pub byte-in : (c r : ℕ) → c < p .width → r < p .height → byteOf p c r < n
-  byte-in c r c-in r-in = omega (arith, byte-is p c r, row-room p n r placed r-in)
-
-  -- different pixels have different bytes
-  byte-same : (c r c′ r′ : ℕ) → c < p .width → c′ < p .width → byteOf p c r ≡ byteOf p c′ r′ → (c ≡ c′) × (r ≡ r′)
-  byte-same c r c′ r′ c-in c′-in e =
-      let level : r * p .stride + c ≡ r′ * p .stride + c′ = omega (arith, byte-is p c r, byte-is p c′ r′) in
-      let cell = cell-same (p .stride) r c r′ c′ (omega (arith, placed .stride-least))
-      (omega (arith, placed .stride-least)) level in
-      (cell .column, cell .row)
-
   length-filled : (page : ℕ → ℕ → ℕ) → length (written p page (replicate n 0)) ≡ n
   length-filled page = length-written p page (replicate n 0) ∙ length-replicate n 0
 
@@ -171,7 +142,7 @@ module _ (p : Placement) (n : ℕ) (placed : Placed p n) where
   unfolding pixelIn
   filled-pixel page c r c-in r-in =
       written-pixel p page (replicate n 0) c r (omega (arith, placed .stride-least)) c-in r-in
-      (rw length-replicate (byte-in c r c-in r-in))
+      (rw length-replicate (byte-below p n c r placed c-in r-in))
 
   filled-small :
       (page : ℕ → ℕ → ℕ) → ((c r : ℕ) → page c r ≤ 1) → (i : ℕ) → getD (written p page (replicate n 0)) i 0 ≤ 1
@@ -226,7 +197,7 @@ module _ (l : Line) (p : Placement) (size : ℕ) (placed : Placed p size) (low :
     unfolding changedTray
     changed-there =
         getD-set-same (runTray l p size low q n) (byteOf p c r) (winner low) 0
-        (rw run-length (byte-in p size placed c r c-in r-in))
+        (rw run-length (byte-below p size c r placed c-in r-in))
 
     pub changed-bytes : (i : ℕ) → getD (changedTray l p size low q n c r) i 0 ≤ 1
     changed-bytes i =
@@ -240,13 +211,13 @@ module _ (l : Line) (p : Placement) (size : ℕ) (placed : Placed p size) (low :
 
     -- another pixel
     kept-pixel :
-        (c′ r′ : ℕ) → c′ < p .width → (c′ ≡ c → r′ ≡ r → ⊥)
+        (c′ r′ : ℕ) → c′ < p .width → r′ < p .height → (c′ ≡ c → r′ ≡ r → ⊥)
         → pixelIn (changedTray l p size low q n c r) p c′ r′ ≡ pixelIn (runTray l p size low q n) p c′ r′
     unfolding pixelIn
-    kept-pixel c′ r′ c′-in other =
+    kept-pixel c′ r′ c′-in r′-in other =
         changed-elsewhere (byteOf p c′ r′)
         (λ e.
-        let same = byte-same p size placed c′ r′ c r c′-in c-in e in
+        let same = byte-same p size c′ r′ c r placed c′-in r′-in c-in r-in e in
         other (same .0) (same .1))
 
 -- ---- the line through column c, row r in these trays
@@ -281,7 +252,7 @@ module _ (t : Ticket) (p : Placement) (c r : ℕ) (ok : Allowed t) (clear : Clea
     changed-value c′ r′ y other =
         let here = near-in t p c r c₁ r₁ x in
         let there = near-in t p c r c′ r′ y in
-        kept-pixel (lineOf t) p size placed low q n c₁ r₁ (here .0) (here .1) c′ r′ (there .0)
+        kept-pixel (lineOf t) p size placed low q n c₁ r₁ (here .0) (here .1) c′ r′ (there .0) (there .1)
         (λ e e′. other
         (sym (near-step t p c r c′ r′ ok y) ∙ ap₂ (stepAt (lineOf t)) e e′ ∙ near-step t p c r c₁ r₁ ok x))
         ∙ run-value c′ r′ y

@@ -14,24 +14,29 @@ use Rattle.geometry.specs.Line.{floorDiv, D, shift, period, profile, place, lan
 use Rattle.geometry.specs.Number.{within, inPage, count, behind, ahead}
 use Rattle.runs.specs.Block.{rightward, leftward, resulting}
 use Rattle.runs.specs.Scratch.{total}
+use Rattle.refusal.specs.Chain.{unless, _then_}
+use Rattle.refusal.specs.declared.Answer.the-variants.{Done}
 use Rattle.ticket.specs.Fields.{byteAt, numberAt, signed16, signedAt, operationIn, lineIn, dxIn, dyIn, lengthIn}
-use Rattle.ticket.specs.Fields.{originIn, phaseIn, boxHead, boxIn, boxesIn}
-use Rattle.ticket.specs.Judging.{_then_, judgeHead, judgeSize, judgeField, operationKnown, lineKnown, isPeriodic}
+use Rattle.ticket.specs.Fields.{originIn, phaseIn, fieldEnd, boxAt, boxesFrom, boxesIn}
+use Rattle.ticket.specs.Judging.{judgeHead, judgeSize, judgeField, operationKnown, lineKnown, isPeriodic}
 use Rattle.ticket.specs.Judging.{divided, coprime, vectorAllowed, lengthAllowed, originAllowed, phaseAllowed}
 use Rattle.ticket.specs.Judging.{judgeOperation, judgeLine, judgeVector, judgeLength, judgeOrigin, judgePhase, judgeBox}
 use Rattle.ticket.specs.Judging.{judged}
-use Rattle.ticket.specs.Judging as Judging
+use Rattle.ticket.specs.Judging as ticket
 use Rattle.ticket.specs.Laws.{Bytes}
-use Rattle.ticket.specs.Reading.{boxPlace, boxPlaces, shown}
-use Rattle.tray.specs.Placement.{sideAllowed, allowed, fits, scratchNeeded}
+use Rattle.ticket.specs.Reading.{boxPlaces, shown}
+use Rattle.boxes.specs.Boxes.{hidden, boxesOf, boxAllowed}
+use Rattle.tray.specs.Placement.{sideAllowed, allowed, fits, sourcePage, outputPage, scratchNeeded}
 use Rattle.tray.specs.Turned.{downOf, acrossOf}
-use Rattle.filter.specs.Seen.{hidden, boxesOf, lineOf, runsSteep}
+use Rattle.tray.specs.declared.Placements.{Placements}
+use Rattle.filter.specs.Seen.{runsSteep}
 use Rattle.filter.specs.Filters.{dilationBack}
-use Rattle.filter.specs.Work.{charged, chargedAt, passWork, workOf}
-use Rattle.filter.specs.Job.{Lengths, sourcePage, outputPage, boxAllowed, unless, judgeBoxes, placed, answerUnder}
-use Rattle.filter.specs.Job.{answer}
-use Rattle.answer.specs.declared.Answer.the-variants.{Done}
-use Rattle.filter.specs.declared.Placements.{Placements}
+use Rattle.filter.specs.Work.{charged, chargedAt, passWork, erosionWork, dilationWork, workOf}
+use Rattle.job.specs.Order.{lineOf, segmentOf, pagesOf}
+use Rattle.job.specs.Judging.{judgeSides, judgeSource, judgeOutput, judgeScratch, judgeBoxesFrom, judgeBoxes}
+use Rattle.job.specs.Judging.{judgePlaces}
+use Rattle.job.specs.Job.{jobWork, answer}
+use Rattle.job.specs.declared.Lengths.{Lengths}
 use Rattle.demands.specs.Near.{Near}
 use Rattle.demands.specs.Exact.{Clear, JobMatters}
 use Rattle.demands.proofs.ExactJob.{exact-job-reach}
@@ -70,20 +75,21 @@ unfolding small
 opening-bytes = small-bytes opening refl
 
 opening-done : answer opening row sizes ≡ Done 6
-unfolding answer answerUnder placed judgeBoxes unless boxAllowed sourcePage outputPage sideAllowed allowed fits
-    scratchNeeded workOf passWork chargedAt charged dilationBack runsSteep lineOf boxesOf steep majorOf minorOf floorDiv
-    D shift period profile place landing stepOf majorAt within inPage count behind ahead rightward leftward resulting
-    total byteAt numberAt signed16 signedAt operationIn lineIn dxIn dyIn lengthIn originIn phaseIn boxHead boxIn boxesIn
-    judgeHead judgeSize judgeField operationKnown lineKnown isPeriodic divided coprime vectorAllowed lengthAllowed
-    originAllowed phaseAllowed judgeOperation judgeLine judgeVector judgeLength judgeOrigin judgePhase judgeBox judged
-    Judging.unless Judging.judgeBoxes _then_ shallow shown boxPlace boxPlaces
+unfolding answer jobWork judgePlaces judgeSides judgeSource judgeOutput judgeScratch judgeBoxes judgeBoxesFrom unless
+    _then_ boxAllowed sourcePage outputPage sideAllowed allowed fits scratchNeeded pagesOf workOf erosionWork
+    dilationWork passWork chargedAt charged dilationBack runsSteep lineOf segmentOf boxesOf shallow steep majorOf
+    minorOf floorDiv D shift period profile place landing stepOf majorAt within inPage count behind ahead rightward
+    leftward resulting total byteAt numberAt signed16 signedAt operationIn lineIn dxIn dyIn lengthIn originIn phaseIn
+    fieldEnd boxAt boxesFrom boxesIn judgeHead judgeSize judgeField operationKnown lineKnown isPeriodic divided coprime
+    vectorAllowed lengthAllowed originAllowed phaseAllowed judgeOperation judgeLine judgeVector judgeLength judgeOrigin
+    judgePhase judgeBox ticket.judgeBoxes judged shown boxPlaces
 opening-done = refl
 
 -- the middle pixel stands at step 1
 middle-clear : Clear (shown opening) (sourcePage row) 1 0
 unfolding sourcePage runsSteep lineOf boxesOf hidden steep majorOf minorOf floorDiv D shift period profile place landing
     stepOf majorAt within inPage downOf acrossOf byteAt numberAt signed16 signedAt operationIn lineIn dxIn dyIn lengthIn
-    originIn phaseIn boxHead boxIn boxesIn isPeriodic shown boxPlace boxPlaces
+    originIn phaseIn fieldEnd boxAt boxesFrom boxesIn isPeriodic shown boxPlaces
 middle-clear =
     record {
       column = omega arith;
@@ -103,7 +109,7 @@ middle-clear =
 middle-near : (c : ℕ) → c < 3 → Near (shown opening) (sourcePage row) 1 0 c 0
 unfolding sourcePage runsSteep lineOf boxesOf hidden steep majorOf minorOf floorDiv D shift period profile place landing
     stepOf majorAt within inPage downOf acrossOf byteAt numberAt signed16 signedAt operationIn lineIn dxIn dyIn lengthIn
-    originIn phaseIn boxHead boxIn boxesIn isPeriodic shown boxPlace boxPlaces
+    originIn phaseIn fieldEnd boxAt boxesFrom boxesIn isPeriodic shown boxPlaces
 middle-near zero h =
     record {
       step = 0;

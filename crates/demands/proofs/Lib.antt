@@ -1,12 +1,11 @@
 -- The proofs of the statements in specs/. Demands names the proof of each.
 pub mod Demands
--- laws of lines and of the two axes
-mod Lines
+-- laws of lines, of the two axes and of the page in a tray
 mod Axes
 mod OnLines
+mod Pages
 mod Near
 -- the answer, the trays and the work
-mod Finishing
 mod Same
 mod Untouched
 mod Work

@@ -7,20 +7,21 @@ use native.Mathlib.Omega.{arith}
 use Rattle.geometry.specs.Line.{landing, stepOf, majorAt}
 use Rattle.geometry.specs.Number.{inPage}
 use Rattle.geometry.specs.Drift.{Sound}
-use Rattle.geometry.specs.Laws.{own-step, major-at-step, major-of-major, step-of-major, landing-onward, same-steps}
+use Rattle.geometry.specs.Laws.{own-landing, own-step, major-at-step, major-of-major, step-of-major, landing-onward}
+use Rattle.geometry.specs.Laws.{same-steps, landed-on-page}
 use Rattle.geometry.specs.declared.Line.{Line}
 use Rattle.tray.specs.Laws.{down-in, across-in}
-use Rattle.filter.specs.Seen.{lineOf, runsSteep}
+use Rattle.filter.specs.Seen.{runsSteep}
+use Rattle.job.specs.Order.{lineOf}
+use Rattle.job.specs.Laws.{line-sound}
 use Rattle.demands.specs.Near.{majorPlace, minorPlace, NearIn, NearSelf, NearStep, NearBack}
-use Rattle.demands.proofs.Lines.{own-landing, in-page-landed}
 use Rattle.demands.proofs.Axes.{turned-in}
-use Rattle.demands.proofs.OnLines.{line-sound}
 
 pub near-in : NearIn
 near-in t p c r c′ r′ n =
     let l : Line = lineOf t in
     let there =
-    in-page-landed l _ _ (majorPlace l c r) (minorPlace l c r) (n .step) _ (n .is-step .across) (n .on-page) in
+    landed-on-page l _ _ (majorPlace l c r) (minorPlace l c r) (n .step) _ (n .on-page) (n .is-step .across) in
     turned-in (runsSteep l) (p .width) (p .height) c′ r′ (omega (arith, there .0, n .is-step .along)) (there .1)
 
 pub near-step : NearStep
@@ -38,7 +39,7 @@ near-self t p c r ok c-in r-in =
       fewer = record { back = omega (arith, ok .origin-below); on = omega (arith, ok .origin-below) };
       on-page = own-step l whole _ _ _ _ (down-in steep c r (p .width) (p .height) c-in r-in)
           (across-in steep c r (p .width) (p .height) c-in r-in);
-      is-step = record { along = major-at-step l whole (majorPlace l c r); across = own-landing l whole _ _ };
+      is-step = record { along = major-at-step l whole (majorPlace l c r); across = own-landing l _ _ };
     }
 
 pub near-back : NearBack
@@ -66,6 +67,6 @@ near-back t p c r c′ r′ ok c-in r-in n =
             ∙ major-at-step l whole M;
         across = ap (λ (q : ℕ). landing l m′ q (stepOf l M)) there
             ∙ landing-onward l m (stepOf l M) (n .step) (stepOf l M) m′ (n .is-step .across)
-            ∙ own-landing l whole M m;
+            ∙ own-landing l M m;
       };
     }

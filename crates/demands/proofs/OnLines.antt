@@ -5,24 +5,16 @@ use mathlib.Core.Option.{some}
 use Prim.Native.Nat.{ℕ}
 use Rattle.geometry.specs.Line.{landing, stepOf, majorAt}
 use Rattle.geometry.specs.Drift.{Sound}
-use Rattle.geometry.specs.Laws.{major-at-step, major-of-major, step-of-major, landing-onward, sound}
+use Rattle.geometry.specs.Laws.{own-landing, major-at-step, major-of-major, step-of-major, landing-onward}
 use Rattle.geometry.specs.declared.Line.{Line}
-use Rattle.ticket.specs.Laws.{Allowed}
-use Rattle.ticket.specs.declared.Ticket.{Ticket}
-use Rattle.filter.specs.Seen.{lineOf}
-use Rattle.filter.specs.Filters.{View, valueAt, onLine}
-use Rattle.demands.proofs.Lines.{own-landing}
-
--- the line of a ticket that was read
-pub line-sound : (t : Ticket) → Allowed t → Sound (lineOf t)
-unfolding lineOf
-line-sound t ok = sound (lineOf t) (ok .runs)
+use Rattle.filter.specs.Seen.{View}
+use Rattle.filter.specs.Filters.{valueAt, onLine}
 
 module _ (l : Line) (ok : Sound l) (page : View) (M m : ℕ) where
   -- the line has the pixel itself at the pixel's step
   pub own-value : onLine l page M m (stepOf l M) ≡ page M m
   unfolding onLine valueAt
-  own-value = ap₂ (valueAt page) (major-at-step l ok M) (own-landing l ok M m)
+  own-value = ap₂ (valueAt page) (major-at-step l ok M) (own-landing l M m)
 
   -- the line through another of its pixels is the same line
   pub same-line :

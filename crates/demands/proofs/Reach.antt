@@ -9,26 +9,28 @@ use native.Mathlib.Omega.{arith}
 use borrow.Author.Tests.{ltb-true}
 use lib.Dec.{ltb}
 use Rattle.geometry.specs.Line.{landing, stepOf, majorAt}
+use Rattle.geometry.specs.Laws.{landed-in-page}
 use Rattle.geometry.specs.declared.Line.{Line}
-use Rattle.ticket.specs.Laws.{Allowed, good-allowed}
+use Rattle.ticket.specs.Laws.{Allowed}
 use Rattle.ticket.specs.Reading.{shown}
-use Rattle.ticket.specs.declared.HiddenBox.{HiddenBox}
 use Rattle.ticket.specs.declared.Ticket.{Ticket}
-use Rattle.tray.specs.Placement.{pixelIn}
+use Rattle.boxes.specs.Boxes.{hidden, boxesOf}
+use Rattle.tray.specs.Placement.{pixelIn, sourcePage}
 use Rattle.tray.specs.Turned.{downOf, acrossOf}
 use Rattle.tray.specs.Laws.{down-in, across-in}
 use Rattle.tray.specs.declared.Placement.{Placement}
-use Rattle.filter.specs.Seen.{boxesOf, lineOf, hidden, seen, turned, runsSteep}
-use Rattle.filter.specs.Filters.{View, valueAt, onLine, filtered, orWhite, finished}
-use Rattle.filter.specs.Job.{sourcePage, lengths}
-use Rattle.demands.specs.Near.{Near}
+use Rattle.filter.specs.Seen.{seen, runsSteep}
+use Rattle.filter.specs.Filters.{valueAt, onLine, orWhite}
+use Rattle.job.specs.Order.{lineOf, segmentOf, white}
+use Rattle.job.specs.Job.{finished, lengths}
+use Rattle.job.specs.Laws.{finished-allowed, line-sound, output-pixel}
+use Rattle.demands.specs.Near.{majorPlace, minorPlace, Near}
 use Rattle.demands.specs.Reach.{AgreeNear, AgreeOnPage, Reach, PageAlone, HiddenWhite}
-use Rattle.demands.proofs.Lines.{landed-in-page}
 use Rattle.demands.proofs.Axes.{turned-is, turned-back, down-back, across-back}
 use Rattle.demands.proofs.Near.{near-in}
-use Rattle.demands.proofs.Finishing.{finished-job, output-pixel}
+use Rattle.demands.proofs.Pages.{seenIn, alongIn, finished-at, seen-none}
 use Rattle.demands.proofs.Same.{same-answer}
-use Rattle.demands.proofs.Windows.{filtered-same, filtered-none}
+use Rattle.demands.proofs.Windows.{operated-same, operated-none}
 
 -- ---- the finished page
 
@@ -49,9 +51,6 @@ module _ (t : Ticket) (p : Placement) (source source′ : List ℕ) (c r : ℕ)
 
   abbrev m : ℕ
   m = acrossOf steep c r
-
-  abbrev pageOf : List ℕ → View
-  pageOf tray = turned steep (seen (boxesOf t) p tray)
 
   -- the pixel on which a step lands, fewer than L steps away
   module _ (s m′ : ℕ) (there : landing l m (stepOf l M) s ≡ some m′) (h : stepOf l M < s + t .length)
@@ -86,67 +85,55 @@ module _ (t : Ticket) (p : Placement) (source source′ : List ℕ) (c r : ℕ)
         ap {B = Option ℕ} some (agree c′ r′ near (not-true _ (both .1)))
     by-test false e = refl
 
-    seen-same : pageOf source (majorAt l M s) m′ ≡ pageOf source′ (majorAt l M s) m′
+    seen-same : alongIn t p source (majorAt l M s) m′ ≡ alongIn t p source′ (majorAt l M s) m′
     unfolding seen
     seen-same =
-        turned-is steep (seen (boxesOf t) p source) (majorAt l M s) m′
+        turned-is steep (seenIn t p source) (majorAt l M s) m′
         ∙ by-test _ refl
-        ∙ sym (turned-is steep (seen (boxesOf t) p source′) (majorAt l M s) m′)
+        ∙ sym (turned-is steep (seenIn t p source′) (majorAt l M s) m′)
 
   by-place :
       (s : ℕ) (o : Option ℕ) → landing l m (stepOf l M) s ≡ o → stepOf l M < s + t .length → s < stepOf l M + t .length
-      → valueAt (pageOf source) (majorAt l M s) o ≡ valueAt (pageOf source′) (majorAt l M s) o
+      → valueAt (alongIn t p source) (majorAt l M s) o ≡ valueAt (alongIn t p source′) (majorAt l M s) o
   unfolding valueAt
   by-place s none there h k = refl
   by-place s (some m′) there h k = seen-same s m′ there h k
 
   steps-same :
       (s : ℕ) → stepOf l M < s + t .length → s < stepOf l M + t .length
-      → onLine l (pageOf source) M m s ≡ onLine l (pageOf source′) M m s
+      → onLine l (alongIn t p source) M m s ≡ onLine l (alongIn t p source′) M m s
   unfolding onLine
   steps-same s h k = by-place s (landing l m (stepOf l M) s) refl h k
 
   -- the finished page has the same pixel
   finished-same : Allowed t → finished t p source c r ≡ finished t p source′ c r
-  unfolding finished
+  unfolding segmentOf
   finished-same ok =
-      ap orWhite
-      (turned-is steep (filtered t (pageOf source)) c r
-      ∙ filtered-same t ok M m (pageOf source) (pageOf source′) steps-same
-      ∙ sym (turned-is steep (filtered t (pageOf source′)) c r))
+      finished-at t p source c r
+      ∙ ap (orWhite white)
+      (operated-same (segmentOf t) (line-sound t ok) (ok .origin-below) M m (alongIn t p source) (alongIn t p source′)
+      steps-same
+      (t .operation))
+      ∙ sym (finished-at t p source′ c r)
 
 -- a hidden pixel
-
-and-none : (a : Bool) (v : ℕ) → cond (a && false) (some v) none ≡ none
-and-none true v = refl
-and-none false v = refl
-
-seen-none :
-    (boxes : List HiddenBox) (p : Placement) (tray : List ℕ) (c r : ℕ) → hidden boxes c r ≡ true
-    → seen boxes p tray c r ≡ none
-unfolding seen
-seen-none boxes p tray c r e =
-    ap (λ (b : Bool). cond ((ltb c (p .width) && ltb r (p .height)) && not b) (some (pixelIn tray p c r)) none) e
-    ∙ and-none (ltb c (p .width) && ltb r (p .height)) (pixelIn tray p c r)
-
 finished-hidden :
     (t : Ticket) (p : Placement) (source : List ℕ) (c r : ℕ) → hidden (boxesOf t) c r ≡ true
     → finished t p source c r ≡ 255
-unfolding finished orWhite
+unfolding orWhite
 finished-hidden t p source c r e =
-    let steep : Bool = runsSteep (lineOf t) in
-    let page : View = turned steep (seen (boxesOf t) p source) in
-    ap orWhite
-    (turned-is steep (filtered t page) c r
-    ∙ filtered-none t page (downOf steep c r) (acrossOf steep c r)
-    (turned-back steep (seen (boxesOf t) p source) c r ∙ seen-none (boxesOf t) p source c r e))
+    let l : Line = lineOf t in
+    finished-at t p source c r
+    ∙ ap (orWhite white)
+    (operated-none (t .operation) (segmentOf t) (alongIn t p source) (majorPlace l c r) (minorPlace l c r)
+    (turned-back (runsSteep l) (seenIn t p source) c r ∙ seen-none t p source c r e))
 
 -- ---- the job
 
 pub reach : Reach
 reach ticket p source source′ out out′ scratch scratch′ work bytes same done c r c-in r-in agree =
     let second = sym (same-answer ticket p source source′ out out′ scratch scratch′ same) ∙ done in
-    let ok = good-allowed ticket bytes (finished-job ticket p (lengths source out scratch) work done .good) in
+    let ok = finished-allowed ticket p (lengths source out scratch) work bytes done in
     output-pixel ticket p source out scratch work done c r c-in r-in
     ∙ finished-same (shown ticket) (sourcePage p) source source′ c r agree ok
     ∙ sym (output-pixel ticket p source′ out′ scratch′ work second c r c-in r-in)

@@ -1,8 +1,9 @@
 -- The answer takes lengths alone, so equal lengths give equal answers.
 -- Assumes nothing.
 use mathlib.Core.Path.{_≡_, ap}
-use Rattle.answer.specs.Answer.{numberOf, placeOf, workIn}
-use Rattle.filter.specs.Job.{Lengths, answer, lengths}
+use Rattle.refusal.specs.Answer.{numberOf, placeOf, workIn}
+use Rattle.job.specs.Job.{answer, lengths}
+use Rattle.job.specs.declared.Lengths.{Lengths}
 use Rattle.demands.specs.Same.{SameAnswer, SameNumber, SamePlace, SameWork}
 
 pub same-lengths :

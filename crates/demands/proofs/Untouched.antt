@@ -1,21 +1,47 @@
 -- What a job leaves alone: read off what its trays hold afterwards.
 -- Assumes nothing.
-use mathlib.Core.Path.{_≡_, refl, sym}
+use mathlib.Core.Path.{_≡_, refl, sym, ap}
 use mathlib.Core.Bool.{Bool, true, false}
 use mathlib.Core.List.{List}
 use Prim.Native.Nat.{ℕ}
 use native.Mathlib.Omega.{arith}
 use lib.ListN.{length, getD}
+use Rattle.refusal.specs.Answer.{numberOf, workIn, isDone, whenDone}
+use Rattle.refusal.specs.Chain.{when-done, when-refused}
+use Rattle.refusal.specs.declared.Answer.{Answer}
+use Rattle.refusal.specs.declared.Answer.the-variants.{Done, Refused}
 use Rattle.ticket.specs.Reading.{shown}
-use Rattle.tray.specs.Placement.{scratchNeeded}
+use Rattle.tray.specs.Placement.{sourcePage, outputPage}
 use Rattle.tray.specs.Written.{inside, cleared}
 use Rattle.tray.specs.Laws.{inside-pixel, written-outside, length-written, cleared-above, cleared-below, length-cleared}
 use Rattle.tray.specs.declared.Placement.{Placement}
-use Rattle.filter.specs.Filters.{finished}
-use Rattle.filter.specs.Job.{sourcePage, outputPage, answer, lengths, outputAfter, scratchAfter}
+use Rattle.job.specs.Job.{finished, jobScratch, answer, lengths, outputAfter, scratchAfter}
+use Rattle.job.specs.Laws.{finished-stands}
 use Rattle.demands.specs.Untouched.{OffPage, OutputKept, OutputLength, ScratchKept, ScratchLength, ScratchZero}
 use Rattle.demands.specs.Untouched.{RefusedOutput, RefusedScratch, RefusedWork}
-use Rattle.demands.proofs.Finishing.{finished-job, when-done, when-refused, when-either, no-work}
+
+-- ---- what each answer makes of a tray
+
+-- what holds of a finished tray and of a kept one holds whatever the answer is
+when-either {ℓ} :
+    {X : Type ℓ} (P : X → Type 0) (a : Answer) (done kept : X) → P kept → ((work : ℕ) → a ≡ Done work → P done)
+    → P (whenDone a done kept)
+unfolding whenDone
+when-either P (Done work) done kept k d = d work refl
+when-either P (Refused refusal at) done kept k d = k
+
+-- an answer with a refusal's number is not done, and has no work
+not-done : (a : Answer) → (numberOf a ≡ 0 → ⊥) → isDone a ≡ false
+unfolding numberOf isDone
+not-done (Done work) refused = absurd (refused refl)
+not-done (Refused refusal at) refused = refl
+
+no-work : (a : Answer) → (numberOf a ≡ 0 → ⊥) → workIn a ≡ 0
+unfolding numberOf workIn
+no-work (Done work) refused = absurd (refused refl)
+no-work (Refused refusal at) refused = refl
+
+-- ---- the trays
 
 off-page : (p : Placement) (i : ℕ) → OffPage p i → inside p i ≡ false
 unfolding OffPage
@@ -45,7 +71,7 @@ unfolding scratchAfter
 scratch-kept ticket p source out scratch i past =
     when-either (λ (tray : List ℕ). getD tray i 0 ≡ getD scratch i 0)
     (answer ticket p (lengths source out scratch)) _ scratch refl
-    (λ work e. cleared-above (scratchNeeded (p .width) (p .height)) scratch i past)
+    (λ work e. cleared-above (jobScratch (shown ticket) p) scratch i past)
 
 pub scratch-length : ScratchLength
 unfolding scratchAfter
@@ -53,25 +79,25 @@ scratch-length ticket p source out scratch =
     when-either (λ (tray : List ℕ). length tray ≡ length scratch)
     (answer ticket p (lengths source out scratch)) _ scratch refl
     (λ work e.
-    length-cleared (scratchNeeded (p .width) (p .height)) scratch
-    (finished-job ticket p (lengths source out scratch) work e .lies .room))
+    length-cleared (jobScratch (shown ticket) p) scratch
+    (finished-stands ticket p (lengths source out scratch) work e .room))
 
 pub scratch-zero : ScratchZero
-unfolding scratchAfter
+unfolding scratchAfter isDone
 scratch-zero ticket p source out scratch work e i below =
-    let needed : ℕ = scratchNeeded (p .width) (p .height) in
-    rw (when-done (answer ticket p (lengths source out scratch)) work (cleared needed scratch) scratch e)
-    (cleared-below needed scratch i (omega arith))
+    let used : ℕ = jobScratch (shown ticket) p in
+    rw (when-done (answer ticket p (lengths source out scratch)) (cleared used scratch) scratch (ap isDone e))
+    (cleared-below used scratch i (omega arith))
 
 pub refused-output : RefusedOutput
 unfolding outputAfter
 refused-output ticket p source out scratch refused =
-    when-refused (answer ticket p (lengths source out scratch)) _ out refused
+    when-refused (answer ticket p (lengths source out scratch)) _ out (not-done _ refused)
 
 pub refused-scratch : RefusedScratch
 unfolding scratchAfter
 refused-scratch ticket p source out scratch refused =
-    when-refused (answer ticket p (lengths source out scratch)) _ scratch refused
+    when-refused (answer ticket p (lengths source out scratch)) _ scratch (not-done _ refused)
 
 pub refused-work : RefusedWork
 refused-work ticket p source out scratch refused = no-work (answer ticket p (lengths source out scratch)) refused

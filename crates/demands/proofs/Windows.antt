@@ -1,4 +1,5 @@
--- What a filter's windows reach: a pass looks at its window only, and two windows end to end reach L - 1 steps each way.
+-- What a filter's windows reach: a pass looks at its window only, and two windows end to end reach L - 1 steps each
+-- way.
 -- Assumes nothing.
 use mathlib.Core.Path.{_≡_, refl, sym, ap, ap₂, _∙_}
 use mathlib.Core.Bool.{Bool, true, false, cond}
@@ -11,12 +12,11 @@ use Rattle.geometry.specs.Line.{landing, stepOf, majorAt}
 use Rattle.geometry.specs.Drift.{Sound}
 use Rattle.geometry.specs.Laws.{step-of-major}
 use Rattle.geometry.specs.declared.Line.{Line}
-use Rattle.ticket.specs.Laws.{Allowed}
-use Rattle.ticket.specs.declared.Ticket.{Ticket}
-use Rattle.filter.specs.Seen.{lineOf}
-use Rattle.filter.specs.Filters.{View, joined, extreme, valueAt, onLine, inWindow, passAt, pass, eroded, dilationBack}
-use Rattle.filter.specs.Filters.{dilated, opened, closed, filtered}
-use Rattle.demands.proofs.OnLines.{line-sound, own-value, same-line}
+use Rattle.filter.specs.Seen.{View}
+use Rattle.filter.specs.Filters.{joined, extreme, valueAt, onLine, inWindow, passAt, pass, eroded, dilationBack}
+use Rattle.filter.specs.Filters.{dilated, opened, closed, erosion, dilation, opening, closing, operated}
+use Rattle.filter.specs.declared.Segment.{Segment}
+use Rattle.demands.proofs.OnLines.{own-value, same-line}
 
 -- ---- one pass
 
@@ -112,31 +112,34 @@ cond-same :
 cond-same true f g f′ g′ M m h k = h
 cond-same false f g f′ g′ M m h k = k
 
-module _ (t : Ticket) (ok : Allowed t) where
+module _ (segment : Segment) (ok : Sound (segment .line)) (short : segment .origin < segment .length) where
   -- the two windows are end to end: L - 1 - o and o
-  whole-open : suc (t .origin + dilationBack t) ≡ t .length
+  whole-open : suc (segment .origin + dilationBack segment) ≡ segment .length
   unfolding dilationBack
-  whole-open = omega (arith, ok .origin-below)
+  whole-open = omega arith
 
-  whole-close : suc (dilationBack t + t .origin) ≡ t .length
+  whole-close : suc (dilationBack segment + segment .origin) ≡ segment .length
   whole-close = omega (arith, whole-open)
 
   module _ (M m : ℕ) (page page′ : View)
       (same :
-      (s : ℕ) → stepOf (lineOf t) M < s + t .length → s < stepOf (lineOf t) M + t .length
-      → onLine (lineOf t) page M m s ≡ onLine (lineOf t) page′ M m s) where
-    pub filtered-same : filtered t page M m ≡ filtered t page′ M m
-    unfolding filtered eroded dilated opened closed
-    filtered-same =
-        let l : Line = lineOf t in
-        let L : ℕ = t .length in
-        cond-same (eqb (t .operation) 1) (eroded t page) _ (eroded t page′) _ M m
-        (once-same l (line-sound t ok) L M m page page′ same true (t .origin) (omega (arith, whole-open)))
-        (cond-same (eqb (t .operation) 2) (dilated t page) _ (dilated t page′) _ M m
-        (once-same l (line-sound t ok) L M m page page′ same false (dilationBack t) (omega (arith, whole-open)))
-        (cond-same (eqb (t .operation) 3) (opened t page) (closed t page) (opened t page′) (closed t page′) M m
-        (twice-same l (line-sound t ok) L M m page page′ same true false (t .origin) (dilationBack t) whole-open)
-        (twice-same l (line-sound t ok) L M m page page′ same false true (dilationBack t) (t .origin) whole-close)))
+      (s : ℕ) → stepOf (segment .line) M < s + segment .length → s < stepOf (segment .line) M + segment .length
+      → onLine (segment .line) page M m s ≡ onLine (segment .line) page′ M m s) where
+    pub operated-same : (n : ℕ) → operated n segment page M m ≡ operated n segment page′ M m
+    unfolding operated eroded dilated opened closed
+    operated-same n =
+        let l : Line = segment .line in
+        let L : ℕ = segment .length in
+        let o : ℕ = segment .origin in
+        let back : ℕ = dilationBack segment in
+        cond-same (eqb n erosion) (eroded segment page) _ (eroded segment page′) _ M m
+        (once-same l ok L M m page page′ same true o (omega arith))
+        (cond-same (eqb n dilation) (dilated segment page) _ (dilated segment page′) _ M m
+        (once-same l ok L M m page page′ same false back (omega (arith, whole-open)))
+        (cond-same (eqb n opening) (opened segment page) _ (opened segment page′) _ M m
+        (twice-same l ok L M m page page′ same true false o back whole-open)
+        (cond-same (eqb n closing) (closed segment page) _ (closed segment page′) _ M m
+        (twice-same l ok L M m page page′ same false true back o whole-close) refl)))
 
 -- ---- an absent pixel stays absent
 
@@ -149,13 +152,19 @@ cond-none : (b : Bool) (f g : View) (M m : ℕ) → f M m ≡ none → g M m ≡
 cond-none true f g M m h k = h
 cond-none false f g M m h k = k
 
-pub filtered-none : (t : Ticket) (page : View) (M m : ℕ) → page M m ≡ none → filtered t page M m ≡ none
-unfolding filtered eroded dilated opened closed
-filtered-none t page M m e =
-    let eroding : eroded t page M m ≡ none = pass-absent true (lineOf t) (t .origin) (t .length) page M m e in
-    let dilating : dilated t page M m ≡ none = pass-absent false (lineOf t) (dilationBack t) (t .length) page M m e in
-    cond-none (eqb (t .operation) 1) (eroded t page) _ M m eroding
-    (cond-none (eqb (t .operation) 2) (dilated t page) _ M m dilating
-    (cond-none (eqb (t .operation) 3) (opened t page) (closed t page) M m
-    (pass-absent false (lineOf t) (dilationBack t) (t .length) (eroded t page) M m eroding)
-    (pass-absent true (lineOf t) (t .origin) (t .length) (dilated t page) M m dilating)))
+pub operated-none :
+    (n : ℕ) (segment : Segment) (page : View) (M m : ℕ) → page M m ≡ none → operated n segment page M m ≡ none
+unfolding operated eroded dilated opened closed
+operated-none n segment page M m e =
+    let l : Line = segment .line in
+    let L : ℕ = segment .length in
+    let o : ℕ = segment .origin in
+    let back : ℕ = dilationBack segment in
+    let eroding : eroded segment page M m ≡ none = pass-absent true l o L page M m e in
+    let dilating : dilated segment page M m ≡ none = pass-absent false l back L page M m e in
+    cond-none (eqb n erosion) (eroded segment page) _ M m eroding
+    (cond-none (eqb n dilation) (dilated segment page) _ M m dilating
+    (cond-none (eqb n opening) (opened segment page) _ M m
+    (pass-absent false l back L (eroded segment page) M m eroding)
+    (cond-none (eqb n closing) (closed segment page) _ M m
+    (pass-absent true l o L (dilated segment page) M m dilating) refl)))

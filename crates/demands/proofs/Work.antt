@@ -1,6 +1,6 @@
 -- The work is at most 3·w·h a pass: each of a pixel's three charges is at most one.
 -- Assumes nothing.
-use mathlib.Core.Path.{_≡_, refl, ap}
+use mathlib.Core.Path.{_≡_, refl, sym, ap}
 use mathlib.Core.Bool.{Bool, true, false, _||_, cond}
 use mathlib.Core.Logic.{inl, inr}
 use Prim.Native.Nat.{ℕ, zero, suc, _+_, _-_, _*_, _/_, _%_, _≤_, min}
@@ -11,13 +11,15 @@ use Rattle.geometry.specs.Number.{behind, ahead}
 use Rattle.runs.specs.Block.{rightward, leftward, resulting}
 use Rattle.runs.specs.Scratch.{total}
 use Rattle.ticket.specs.Reading.{shown}
-use Rattle.ticket.specs.declared.Ticket.{Ticket}
-use Rattle.filter.specs.Seen.{lineOf, runsSteep}
-use Rattle.filter.specs.Filters.{dilationBack}
-use Rattle.filter.specs.Work.{charged, chargedAt, passWork, workOf}
+use Rattle.filter.specs.Seen.{runsSteep}
+use Rattle.filter.specs.Filters.{erosion, dilation, opening, closing, dilationBack}
+use Rattle.filter.specs.Work.{charged, chargedAt, passWork, erosionWork, dilationWork, workOf}
+use Rattle.filter.specs.declared.Segment.{Segment}
+use Rattle.job.specs.Order.{segmentOf}
+use Rattle.job.specs.Job.{jobWork}
+use Rattle.job.specs.Laws.{finished-job}
 use Rattle.demands.specs.Work.{PassWork, OnePassWork, TwoPassWork, FinishedWork, FinishedOnePass}
 use Rattle.demands.specs.Work.{FinishedTwoPasses}
-use Rattle.demands.proofs.Finishing.{finished-job}
 
 one-or-none : (b : Bool) → cond b 0 1 ≤ 1
 one-or-none true = omega arith
@@ -56,46 +58,56 @@ turned-size : (steep : Bool) (w h : ℕ) → cond steep h w * cond steep w h ≡
 turned-size true w h = mul-comm h w
 turned-size false w h = refl
 
-module _ (t : Ticket) (w h : ℕ) where
-  abbrev pass : ℕ → ℕ
-  pass a = passWork (lineOf t) (cond (runsSteep (lineOf t)) h w) (cond (runsSteep (lineOf t)) w h) (t .length) a
-
-  pass-most : (a : ℕ) → pass a ≤ 3 * (w * h)
+module _ (segment : Segment) (w h : ℕ) where
+  pass-most :
+      (a : ℕ)
+      → passWork (segment .line) (cond (runsSteep (segment .line)) h w) (cond (runsSteep (segment .line)) w h)
+      (segment .length) a ≤ 3 * (w * h)
   pass-most a =
-      let steep : Bool = runsSteep (lineOf t) in
+      let steep : Bool = runsSteep (segment .line) in
       omega (
         arith,
-        pass-work (lineOf t) (cond steep h w) (cond steep w h) (t .length) a,
+        pass-work (segment .line) (cond steep h w) (cond steep w h) (segment .length) a,
         turned-size steep w h,
       )
 
-  by-operation : ℕ → ℕ
-  by-operation o =
-      let eroding : ℕ = pass (t .origin) in
-      let dilating : ℕ = pass (dilationBack t) in
-      cond (eqb o 1) eroding (cond (eqb o 2) dilating (eroding + dilating))
+  erosion-most : erosionWork segment w h ≤ 3 * (w * h)
+  unfolding erosionWork
+  erosion-most = pass-most (segment .origin)
+
+  dilation-most : dilationWork segment w h ≤ 3 * (w * h)
+  unfolding dilationWork
+  dilation-most = pass-most (dilationBack segment)
 
 pub one-pass-work : OnePassWork
-unfolding workOf by-operation
-one-pass-work t w h (inl e) = rw (ap (by-operation t w h) e) (pass-most t w h (t .origin))
-one-pass-work t w h (inr e) = rw (ap (by-operation t w h) e) (pass-most t w h (dilationBack t))
+unfolding jobWork workOf
+one-pass-work t w h (inl e) =
+    rw (ap (λ (n : ℕ). workOf n (segmentOf t) w h) e) (erosion-most (segmentOf t) w h)
+one-pass-work t w h (inr e) =
+    rw (ap (λ (n : ℕ). workOf n (segmentOf t) w h) e) (dilation-most (segmentOf t) w h)
 
-of-two : (one two : Bool) (x y v : ℕ) → x ≤ v → y ≤ v → cond one x (cond two y (x + y)) ≤ v + v
-of-two true two x y v h k = omega arith
-of-two false true x y v h k = omega arith
-of-two false false x y v h k = omega arith
+of-two :
+    (one two three four : Bool) (x y v : ℕ) → x ≤ v → y ≤ v
+    → cond one x (cond two y (cond three (x + y) (cond four (y + x) 0))) ≤ v + v
+of-two true two three four x y v h k = omega arith
+of-two false true three four x y v h k = omega arith
+of-two false false true four x y v h k = omega arith
+of-two false false false true x y v h k = omega arith
+of-two false false false false x y v h k = omega arith
 
 pub two-pass-work : TwoPassWork
-unfolding workOf
+unfolding jobWork workOf
 two-pass-work t w h =
+    let n : ℕ = t .operation in
     omega (
       arith,
-      of-two (eqb (t .operation) 1) (eqb (t .operation) 2) _ _ (3 * (w * h)) (pass-most t w h (t .origin))
-          (pass-most t w h (dilationBack t)),
+      of-two (eqb n erosion) (eqb n dilation) (eqb n opening) (eqb n closing) _ _ (3 * (w * h))
+          (erosion-most (segmentOf t) w h)
+          (dilation-most (segmentOf t) w h),
     )
 
 pub finished-work : FinishedWork
-finished-work ticket p n work done = finished-job ticket p n work done .counted
+finished-work ticket p n work done = sym (finished-job ticket p n work done .worked)
 
 pub finished-one-pass : FinishedOnePass
 finished-one-pass ticket p n work done one =

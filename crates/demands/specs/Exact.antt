@@ -9,17 +9,18 @@ use mathlib.Core.Logic.{_⊎_, _≢_}
 use mathlib.Core.List.{List}
 use Prim.Native.Nat.{ℕ, suc, _≤_, _<_}
 use lib.ListN.{length, getD}
+use Rattle.refusal.specs.declared.Answer.the-variants.{Done}
 use Rattle.ticket.specs.Laws.{Allowed, Bytes}
 use Rattle.ticket.specs.Reading.{shown}
 use Rattle.ticket.specs.declared.Ticket.{Ticket}
-use Rattle.tray.specs.Placement.{byteOf, pixelIn}
+use Rattle.boxes.specs.Boxes.{hidden, boxesOf}
+use Rattle.tray.specs.Placement.{byteOf, pixelIn, sourcePage, outputPage}
 use Rattle.tray.specs.Promises.{Placed}
 use Rattle.tray.specs.declared.Placement.{Placement}
-use Rattle.filter.specs.Seen.{boxesOf, hidden, lineOf}
-use Rattle.filter.specs.Filters.{finished}
-use Rattle.filter.specs.Job.{Lengths, sourcePage, outputPage, answer, outputAfter}
-use Rattle.answer.specs.declared.Answer.the-variants.{Done}
-use Rattle.filter.specs.declared.Placements.{Placements}
+use Rattle.tray.specs.declared.Placements.{Placements}
+use Rattle.job.specs.Order.{lineOf}
+use Rattle.job.specs.Job.{finished, answer, outputAfter}
+use Rattle.job.specs.declared.Lengths.{Lengths}
 use Rattle.demands.specs.Near.{stepAt, onPage, FewerSteps, Near}
 
 -- "operations 3 and 4"

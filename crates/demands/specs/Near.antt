@@ -16,7 +16,8 @@ use Rattle.ticket.specs.Laws.{Allowed}
 use Rattle.ticket.specs.declared.Ticket.{Ticket}
 use Rattle.tray.specs.Turned.{downOf, acrossOf}
 use Rattle.tray.specs.declared.Placement.{Placement}
-use Rattle.filter.specs.Seen.{lineOf, runsSteep}
+use Rattle.filter.specs.Seen.{runsSteep}
+use Rattle.job.specs.Order.{lineOf}
 
 -- a pixel's place along the major axis (the columns of a shallow line, the rows of a steep one), and along the other
 abbrev pub majorPlace : Line → ℕ → ℕ → ℕ

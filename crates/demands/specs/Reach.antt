@@ -7,15 +7,15 @@ use mathlib.Core.Path.{_≡_}
 use mathlib.Core.Bool.{true, false}
 use mathlib.Core.List.{List}
 use Prim.Native.Nat.{ℕ, _<_}
+use Rattle.refusal.specs.declared.Answer.the-variants.{Done}
 use Rattle.ticket.specs.Laws.{Bytes}
 use Rattle.ticket.specs.Reading.{shown}
 use Rattle.ticket.specs.declared.Ticket.{Ticket}
-use Rattle.tray.specs.Placement.{pixelIn}
+use Rattle.boxes.specs.Boxes.{hidden, boxesOf}
+use Rattle.tray.specs.Placement.{pixelIn, sourcePage, outputPage}
 use Rattle.tray.specs.declared.Placement.{Placement}
-use Rattle.filter.specs.Seen.{boxesOf, hidden}
-use Rattle.filter.specs.Job.{sourcePage, outputPage, answer, lengths, outputAfter}
-use Rattle.answer.specs.declared.Answer.the-variants.{Done}
-use Rattle.filter.specs.declared.Placements.{Placements}
+use Rattle.tray.specs.declared.Placements.{Placements}
+use Rattle.job.specs.Job.{answer, lengths, outputAfter}
 use Rattle.demands.specs.Same.{SameLengths}
 use Rattle.demands.specs.Near.{Near}
 

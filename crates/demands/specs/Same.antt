@@ -5,9 +5,9 @@ use mathlib.Core.Path.{_≡_}
 use mathlib.Core.List.{List}
 use Prim.Native.Nat.{ℕ}
 use lib.ListN.{length}
-use Rattle.answer.specs.Answer.{numberOf, placeOf, workIn}
-use Rattle.filter.specs.Job.{answer, lengths}
-use Rattle.filter.specs.declared.Placements.{Placements}
+use Rattle.refusal.specs.Answer.{numberOf, placeOf, workIn}
+use Rattle.tray.specs.declared.Placements.{Placements}
+use Rattle.job.specs.Job.{answer, lengths}
 
 -- the trays of two jobs have the same three lengths
 pub record SameLengths (source source′ out out′ scratch scratch′ : List ℕ) : Type 0 where

@@ -6,12 +6,13 @@ use mathlib.Core.Path.{_≡_}
 use mathlib.Core.List.{List}
 use Prim.Native.Nat.{ℕ, _≤_, _<_}
 use lib.ListN.{length, getD}
-use Rattle.tray.specs.Placement.{byteOf, scratchNeeded}
+use Rattle.refusal.specs.Answer.{numberOf, workIn}
+use Rattle.refusal.specs.declared.Answer.the-variants.{Done}
+use Rattle.ticket.specs.Reading.{shown}
+use Rattle.tray.specs.Placement.{byteOf, outputPage}
 use Rattle.tray.specs.declared.Placement.{Placement}
-use Rattle.answer.specs.Answer.{numberOf, workIn}
-use Rattle.filter.specs.Job.{outputPage, answer, lengths, outputAfter, scratchAfter}
-use Rattle.answer.specs.declared.Answer.the-variants.{Done}
-use Rattle.filter.specs.declared.Placements.{Placements}
+use Rattle.tray.specs.declared.Placements.{Placements}
+use Rattle.job.specs.Job.{jobScratch, answer, lengths, outputAfter, scratchAfter}
 
 -- byte i of a tray is the byte of no pixel of the page
 unfoldable pub OffPage : Placement → ℕ → Type 0
@@ -36,7 +37,7 @@ OutputLength =
 -- Every job: "Later scratch bytes keep their values.",
 abbrev pub ScratchKept : Type 0
 ScratchKept =
-    (ticket : List ℕ) (p : Placements) (source out scratch : List ℕ) (i : ℕ) → scratchNeeded (p .width) (p .height) ≤ i
+    (ticket : List ℕ) (p : Placements) (source out scratch : List ℕ) (i : ℕ) → jobScratch (shown ticket) p ≤ i
     → getD (scratchAfter ticket p source out scratch) i 0 ≡ getD scratch i 0
 
 -- and the scratch keeps its length.
@@ -50,7 +51,7 @@ abbrev pub ScratchZero : Type 0
 ScratchZero =
     (ticket : List ℕ) (p : Placements) (source out scratch : List ℕ) (work : ℕ)
     → answer ticket p (lengths source out scratch) ≡ Done work
-    → (i : ℕ) → i < scratchNeeded (p .width) (p .height)
+    → (i : ℕ) → i < jobScratch (shown ticket) p
     → getD (scratchAfter ticket p source out scratch) i 0 ≡ 0
 
 -- A refused job "leaves every byte of output ..

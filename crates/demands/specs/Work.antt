@@ -5,12 +5,13 @@ use mathlib.Core.Logic.{_⊎_}
 use mathlib.Core.List.{List}
 use Prim.Native.Nat.{ℕ, _*_, _≤_}
 use Rattle.geometry.specs.declared.Line.{Line}
+use Rattle.refusal.specs.declared.Answer.the-variants.{Done}
 use Rattle.ticket.specs.Reading.{shown}
 use Rattle.ticket.specs.declared.Ticket.{Ticket}
-use Rattle.filter.specs.Work.{passWork, workOf}
-use Rattle.filter.specs.Job.{Lengths, answer}
-use Rattle.answer.specs.declared.Answer.the-variants.{Done}
-use Rattle.filter.specs.declared.Placements.{Placements}
+use Rattle.tray.specs.declared.Placements.{Placements}
+use Rattle.filter.specs.Work.{passWork}
+use Rattle.job.specs.Job.{jobWork, answer}
+use Rattle.job.specs.declared.Lengths.{Lengths}
 
 -- a pass over a page with sides H and W: each pixel is charged three comparisons at most
 abbrev pub PassWork : Type 0
@@ -21,17 +22,17 @@ abbrev pub OnePass : Ticket → Type 0
 OnePass t = (t .operation ≡ 1) ⊎ (t .operation ≡ 2)
 
 abbrev pub OnePassWork : Type 0
-OnePassWork = (t : Ticket) (w h : ℕ) → OnePass t → workOf t w h ≤ 3 * (w * h)
+OnePassWork = (t : Ticket) (w h : ℕ) → OnePass t → jobWork t w h ≤ 3 * (w * h)
 
 -- "Opening and closing add their two passes.": no operation has more
 abbrev pub TwoPassWork : Type 0
-TwoPassWork = (t : Ticket) (w h : ℕ) → workOf t w h ≤ 6 * (w * h)
+TwoPassWork = (t : Ticket) (w h : ℕ) → jobWork t w h ≤ 6 * (w * h)
 
 -- the work that a finished job answers is that of its ticket and its page's sides,
 abbrev pub FinishedWork : Type 0
 FinishedWork =
     (ticket : List ℕ) (p : Placements) (n : Lengths) (work : ℕ) → answer ticket p n ≡ Done work
-    → work ≡ workOf (shown ticket) (p .width) (p .height)
+    → work ≡ jobWork (shown ticket) (p .width) (p .height)
 
 -- so it is at most 3·w·h where the ticket orders one pass,
 abbrev pub FinishedOnePass : Type 0

@@ -11,8 +11,10 @@ use native.Mathlib.Omega.{arith}
 use borrow.Author.Tests.{leb-true}
 use lib.Dec.{leb}
 use lib.ListN.{length, getD}
+use Rattle.geometry.specs.Drift.{Sound}
+use Rattle.geometry.specs.Laws.{sound}
 use Rattle.refusal.specs.Answer.{isDone}
-use Rattle.refusal.specs.Chain.{unless, _then_, then-done, then-work, unless-done}
+use Rattle.refusal.specs.Chain.{unless, _then_, then-done, then-work, unless-done, when-done}
 use Rattle.refusal.specs.declared.Answer.{Answer}
 use Rattle.refusal.specs.declared.Answer.the-variants.{Done, Refused}
 use Rattle.refusal.specs.declared.Refusal.the-variants.{BadSides, SourceTooShort, OutputTooShort, ScratchTooShort, BadBox}
@@ -22,13 +24,17 @@ use Rattle.ticket.specs.Reading.{shown}
 use Rattle.ticket.specs.declared.HiddenBox.{HiddenBox}
 use Rattle.ticket.specs.declared.Ticket.{Ticket}
 use Rattle.boxes.specs.Boxes.{boxesOf, boxAllowed}
-use Rattle.tray.specs.Placement.{allowed, fits, sourcePage, outputPage, scratchNeeded}
+use Rattle.tray.specs.Placement.{byteOf, pixelIn, allowed, fits, sourcePage, outputPage, scratchNeeded}
 use Rattle.tray.specs.Laws as tray
 use Rattle.tray.specs.Promises.{Placed}
+use Rattle.tray.specs.Written.{written}
+use Rattle.tray.specs.declared.Placement.{Placement}
 use Rattle.tray.specs.declared.Placements.{Placements}
-use Rattle.job.specs.Order.{pagesOf}
+use Rattle.filter.specs.Seen.{seen}
+use Rattle.filter.specs.Filters.{filtered, orWhite, recipeBoxes, filteredPage}
+use Rattle.job.specs.Order.{lineOf, segmentOf, white, recipeOf, pagesOf}
 use Rattle.job.specs.Judging.{judgeSides, judgeSource, judgeOutput, judgeScratch, judgeBoxesFrom, judgeBoxes, judgePlaces}
-use Rattle.job.specs.Job.{jobWork, jobScratch, answer}
+use Rattle.job.specs.Job.{finished, jobWork, jobScratch, answer, lengths, outputAfter}
 use Rattle.job.specs.declared.Lengths.{Lengths}
 
 -- ---- the pages in the scratch
@@ -113,3 +119,34 @@ finished-stands ticket p n work e = stands (shown ticket) p n (finished-job tick
 pub finished-allowed :
     (ticket : List ℕ) (p : Placements) (n : Lengths) (work : ℕ) → Bytes ticket → answer ticket p n ≡ Done work → Allowed (shown ticket)
 finished-allowed ticket p n work bytes e = good-allowed ticket bytes (finished-job ticket p n work e .read)
+
+-- ---- the finished page
+
+-- the line of a ticket that was read is one whose laws hold
+pub line-sound : (t : Ticket) → Allowed t → Sound (lineOf t)
+unfolding lineOf
+line-sound t ok = sound (lineOf t) (ok .runs)
+
+-- the finished page is the filter of the ticket's segment, with white where a pixel is absent
+pub finished-is :
+    (t : Ticket) (p : Placement) (tray : List ℕ) (c r : ℕ)
+    → finished t p tray c r
+    ≡ orWhite white
+    (filtered (t .operation) (segmentOf t) (seen (boxesOf t) (p .width) (p .height) (pixelIn tray p)) c r)
+unfolding finished filteredPage recipeBoxes recipeOf boxesOf
+finished-is t p tray c r = refl
+
+-- a finished job's output tray has the finished page's pixels
+pub output-pixel :
+    (ticket : List ℕ) (p : Placements) (source out scratch : List ℕ) (work : ℕ)
+    → answer ticket p (lengths source out scratch) ≡ Done work → (c r : ℕ) → c < p .width → r < p .height
+    → pixelIn (outputAfter ticket p source out scratch) (outputPage p) c r
+    ≡ finished (shown ticket) (sourcePage p) source c r
+unfolding outputAfter outputPage pixelIn isDone
+output-pixel ticket p source out scratch work done c r c-in r-in =
+    let to = finished-stands ticket p (lengths source out scratch) work done .to in
+    let page = finished (shown ticket) (sourcePage p) source in
+    ap (λ (tray : List ℕ). getD tray (byteOf (outputPage p) c r) 0)
+    (when-done (answer ticket p (lengths source out scratch)) (written (outputPage p) page out) out (ap isDone done))
+    ∙ tray.written-pixel (outputPage p) page out c r (omega (arith, to .stride-least)) c-in r-in
+    (tray.byte-below (outputPage p) (length out) c r to c-in r-in)
