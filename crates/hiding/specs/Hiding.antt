@@ -1,5 +1,5 @@
--- Hidden pixels on the compact page: the boxes painted over it. Document 01: "The hidden boxes are handed on as one lent
--- list of boxes."
+-- Hidden pixels on the compact page: the boxes painted over it.
+-- Document 01: "The hidden boxes are handed on as one lent list of boxes."
 -- Assumes nothing.
 use mathlib.Core.Path.{_≡_}
 use mathlib.Core.Bool.{true, false}
@@ -36,7 +36,8 @@ pub record Hideable (boxes : List HiddenBox) (lay : Layout) (bytes : ℕ) : Type
 pub record BoxesPainted (boxes : List HiddenBox) (lay : Layout) (value : ℕ) (before after : List ℕ) : Type 0 where
   pub same-length : length after ≡ length before
   pub hides :
-      (r : ℕ) → r < lay .height → (c : ℕ) → c < lay .width → hidden boxes c r ≡ true → getD after (placeOn lay c r) 0 ≡ value
+      (r : ℕ) → r < lay .height → (c : ℕ) → c < lay .width → hidden boxes c r ≡ true
+      → getD after (placeOn lay c r) 0 ≡ value
   pub shows :
       (r : ℕ) → r < lay .height → (c : ℕ) → c < lay .width → hidden boxes c r ≡ false
       → getD after (placeOn lay c r) 0 ≡ getD before (placeOn lay c r) 0
