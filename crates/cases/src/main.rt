@@ -2,13 +2,14 @@
 // `case N: done W: PIXELS`, rows parted by ` / `, or `case N: refused R at P`. Where a case has several jobs, a word behind
 // its number tells them apart. `stdout` holds what the document says, and work that it does not state is counted by its rule; but the lines
 // of cases 1, 8, 10 and 11 and of the short tray had been seen from this program before they were stored. The same cases stand apart
-// from it in the proved table (filter/specs/Cases.antt) and in the tests of the second program (compare/tests/small_cases.rs).
+// from it in the proved table (job/specs/Cases.antt) and in the tests of the second program (compare/tests/small_cases.rs).
 mod form;
 mod text;
 
-use filter::Placements;
-use filter::Spot;
 use form::ticket;
+use refusal::report;
+use tray::Placements;
+use tray::Spot;
 ghost use Prim.Native.Nat.{_≤_};
 
 // Operations by their numbers in a ticket.
@@ -37,14 +38,14 @@ fn run(name: &[u8], bytes: [u8; 41], size: usize, source: &[u8], height: usize, 
             stride: 3,
         },
     };
-    let answer = filter::job::run(&bytes[..size], placements, source, output, &mut scratch);
+    let answer = job::job::run(&bytes[..size], placements, source, output, &mut scratch);
     text::print_name(name);
-    if answer::report::is_done(answer) {
-        text::print_done(answer::report::work(answer), output);
+    if report::is_done(answer) {
+        text::print_done(report::work(answer), output);
     } else {
         text::print_refused(
-            answer::report::number(answer),
-            answer::report::place(answer),
+            report::number(answer),
+            report::place(answer),
         );
     }
 }

@@ -83,7 +83,8 @@ module _ (lay : Layout) (value : ℕ) where
         same-length = box .size;
         hides = λ r r-in c c-in e. box .hidden r r-in c c-in (covers-within b c r (sym (or-false (covers b c r)) ∙ e));
         shows = λ r r-in c c-in e.
-            box .shown r r-in c c-in (λ w. true≢false (sym (within-covers b c r w) ∙ sym (or-false (covers b c r)) ∙ e));
+            let not-covered = sym (or-false (covers b c r)) ∙ e in
+            box .shown r r-in c c-in (λ w. true≢false (sym (within-covers b c r w) ∙ not-covered));
         rest = box .rest;
       }
 
@@ -133,7 +134,8 @@ lie-one boxes lay k d lie below =
       each = λ j e h. only j e h;
     }
   where
-    only : (j : ℕ) (e : HiddenBox) → j < 1 → boxAllowed (lay .width) (lay .height) (getD (getD boxes k d ∷ []) j e) ≡ true
+    only :
+        (j : ℕ) (e : HiddenBox) → j < 1 → boxAllowed (lay .width) (lay .height) (getD (getD boxes k d ∷ []) j e) ≡ true
     only zero e h = lie .each k d below
     only (suc j) e h = let z : ⊥ = omega arith in absurd z
 
@@ -142,4 +144,7 @@ pub hideable-one :
     (boxes : List HiddenBox) (lay : Layout) (k : ℕ) (d : HiddenBox) (bytes now : ℕ) → Hideable boxes lay bytes
     → k < length boxes → now ≡ bytes → Hideable (getD boxes k d ∷ []) lay now
 hideable-one boxes lay k d bytes now asked below same =
-    record { lie = lie-one boxes lay k d (asked .lie) below; room = subst (λ (n : ℕ). area lay ≤ n) (sym same) (asked .room) }
+    record {
+      lie = lie-one boxes lay k d (asked .lie) below;
+      room = subst (λ (n : ℕ). area lay ≤ n) (sym same) (asked .room);
+    }

@@ -4,9 +4,10 @@
 // `stdin` is case 3 of document 01, the opening of the row 9 1 5, and `stdout` the two lines that it asks for.
 mod text;
 
-use filter::Placements;
-use filter::Spot;
 use libc::STDIN_FILENO;
+use refusal::report;
+use tray::Placements;
+use tray::Spot;
 ghost use Prim.Native.Nat.{_+_, _<_, _≤_};
 ghost use lib.ListN.{length};
 
@@ -83,13 +84,13 @@ fn filter_page(
             stride: w,
         },
     };
-    let answer = filter::job::run(ticket, placements, source, output, scratch);
-    if answer::report::is_done(answer) {
-        text::print_done(answer::report::work(answer), output, w);
+    let answer = job::job::run(ticket, placements, source, output, scratch);
+    if report::is_done(answer) {
+        text::print_done(report::work(answer), output, w);
     } else {
         text::print_refused(
-            answer::report::number(answer),
-            answer::report::place(answer),
+            report::number(answer),
+            report::place(answer),
         );
     }
 }

@@ -2,21 +2,22 @@
 use mathlib.Core.Path.{_≡_, ap, _∙_, subst}
 use mathlib.Core.List.{List}
 use Prim.Native.Nat.{ℕ}
-use Rattle.answer.specs.Answer.{numberOf, placeOf, workIn}
-use Rattle.filter.specs.Job.{Lengths, lengths, answer, outputAfter, scratchAfter}
-use Rattle.answer.specs.declared.Answer.{Answer}
-use Rattle.filter.specs.declared.Placements.{Placements}
+use Rattle.refusal.specs.declared.Answer.{Answer}
+use Rattle.job.specs.Job.{lengths, answer, outputAfter, scratchAfter}
+use Rattle.tray.specs.declared.Placements.{Placements}
 use Rattle.sotrugla.specs.Outcome.{outcomeOf}
 use Rattle.sotrugla.specs.declared.Outcome.{Outcome}
 
-pub told : (ticket : List ℕ) (p q : Placements) (source output scratch after used : List ℕ) (given : Answer) (number place work : ℕ) → p ≡ q
-    → (given ≡ answer ticket p (lengths source output scratch)) × ((after ≡ outputAfter ticket p source output scratch) × (used ≡ scratchAfter ticket p source output scratch))
-    → number ≡ numberOf given → place ≡ placeOf given → work ≡ workIn given
-    → (_≡_ {A = Outcome} (record { refusal = number; place = place; work = work }) (outcomeOf (answer ticket q (lengths source output scratch))))
+pub told :
+    (ticket : List ℕ) (p q : Placements) (source output scratch after used : List ℕ) (given : Answer) (told : Outcome) → p ≡ q
+    → (given ≡ answer ticket p (lengths source output scratch))
+    × ((after ≡ outputAfter ticket p source output scratch) × (used ≡ scratchAfter ticket p source output scratch))
+    → told ≡ outcomeOf given
+    → (told ≡ outcomeOf (answer ticket q (lengths source output scratch)))
     × ((after ≡ outputAfter ticket q source output scratch) × (used ≡ scratchAfter ticket q source output scratch))
-told ticket p q source output scratch after used given number place work same ran en ep ew =
-    let fields : _≡_ {A = Outcome} (record { refusal = number; place = place; work = work }) (outcomeOf given) = λ i. record { refusal = en i; place = ep i; work = ew i } in (
-      fields ∙ ap outcomeOf (ran .0 ∙ ap (λ (x : Placements). answer ticket x (lengths source output scratch)) same),
+told ticket p q source output scratch after used given told same ran is =
+    (
+      is ∙ ap outcomeOf (ran .0 ∙ ap (λ (x : Placements). answer ticket x (lengths source output scratch)) same),
       (
         ran .1 .0 ∙ ap (λ (x : Placements). outputAfter ticket x source output scratch) same,
         ran .1 .1 ∙ ap (λ (x : Placements). scratchAfter ticket x source output scratch) same,

@@ -1,5 +1,6 @@
 -- A ticket put into a buffer of numbers, store by store. Assumes nothing.
 use mathlib.Core.Path.{_≡_, refl, sym, ap, _∙_}
+use mathlib.Core.Bool.{Bool, true, false}
 use mathlib.Core.List.{List, [], _∷_, _++_}
 use Prim.Native.Nat.{ℕ, zero, suc, _+_, _*_, _<_, _≤_}
 use native.Mathlib.Nat.{zero-add}
@@ -14,9 +15,9 @@ use Rattle.ticket.specs.Reading.{blank, reading}
 use Rattle.ticket.specs.declared.HiddenBox.{HiddenBox}
 use Rattle.ticket.specs.declared.Reading.{Reading}
 use Rattle.ticket.specs.declared.Ticket.{Ticket}
-use Rattle.ticket.specs.declared.Verdict.{Verdict}
-use Rattle.ticket.specs.declared.Verdict.the-variants.{Good, Refused}
-use Rattle.sotrugla.specs.Shown.{wordOf, fieldNumbers, boxNumbers, numbersOf, numbersNeeded, verdictOutcome, readOutcome, numbersAfter, Showable}
+use Rattle.refusal.specs.Answer.{isDone}
+use Rattle.sotrugla.specs.Shown.{wordOf, fieldNumbers, boxNumbers, numbersOf, numbersNeeded, readOutcome, numbersAfter, Showable}
+use Rattle.sotrugla.specs.Outcome.{outcomeOf}
 use Rattle.sotrugla.specs.declared.Outcome.{Outcome}
 
 pub four-stores : (l : List ℕ) (at a b c d : ℕ)
@@ -67,14 +68,17 @@ module _ (t : Ticket) (l m n : List ℕ) where
       ∙ sets-eq (numbersOf t) l 0 (omega arith)
       ∙ ap (λ (j : ℕ). numbersOf t ++ drop j l) (zero-add (length (numbersOf t)) ∙ all)
 
--- whatever the verdict
+-- whatever the answer
 pub showable : (s : List ℕ) → Bytes s → Showable (reading s .ticket)
 unfolding blank
-showable s bytes = under (judged s) refl
+showable s bytes = under (isDone (judged s)) refl
   where
-    under : (v : Verdict) → judged s ≡ v → Showable (reading s .ticket)
-    under Good e = let a = good-allowed s bytes e in rw (reading-good s e) (record { dx-to = a .dx-to; dy-to = a .dy-to; count-to = a .count-to; places = a .places })
-    under (Refused fault at) e = rw (reading-refused s fault at e) (record { dx-to = omega arith; dy-to = omega arith; count-to = omega arith; places = refl })
+    under : (done : Bool) → isDone (judged s) ≡ done → Showable (reading s .ticket)
+    under true e =
+        let a = good-allowed s bytes e in
+        rw (reading-good s e) (record { dx-to = a .dx-to; dy-to = a .dy-to; count-to = a .count-to; places = a .places })
+    under false e =
+        rw (reading-refused s e) (record { dx-to = omega arith; dy-to = omega arith; count-to = omega arith; places = refl })
 
 pub read-showable : (s : List ℕ) (r : Reading) → Bytes s → r ≡ reading s → Showable (r .ticket)
 read-showable s r bytes e = rw e (showable s bytes)
@@ -88,12 +92,12 @@ module _ (s numbers : List ℕ) where
   too-short h = rw (lt-ltb (length numbers) numbersNeeded h) (refl, refl)
 
   pub long-enough : (r : Reading) (o : Outcome) (after : List ℕ) → numbersNeeded ≤ length numbers → r ≡ reading s
-      → o ≡ verdictOutcome (r .verdict)
+      → o ≡ outcomeOf (r .answer)
       → after ≡ numbersOf (r .ticket) ++ drop numbersNeeded numbers
       → (o ≡ readOutcome s (length numbers)) × (after ≡ numbersAfter s numbers)
   unfolding readOutcome numbersAfter
   long-enough r o after h e told put =
       rw (le-ltb (length numbers) numbersNeeded h) (
-        told ∙ ap (λ (x : Reading). verdictOutcome (x .verdict)) e,
+        told ∙ ap (λ (x : Reading). outcomeOf (x .answer)) e,
         put ∙ ap (λ (x : Reading). numbersOf (x .ticket) ++ drop numbersNeeded numbers) e,
       )

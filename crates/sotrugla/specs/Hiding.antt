@@ -5,20 +5,19 @@
 -- Assumes nothing.
 use mathlib.Core.Path.{_≡_}
 use Prim.Native.Nat.{ℕ}
-use mathlib.Core.Bool.{cond}
+use mathlib.Core.Bool.{false, cond}
 use mathlib.Core.List.{List}
 use Rattle.ticket.specs.Judging.{judged}
 use Rattle.ticket.specs.Laws.{reading-refused}
 use Rattle.ticket.specs.Reading.{blank, reading}
-use Rattle.ticket.specs.declared.Fault.{Fault}
-use Rattle.ticket.specs.declared.Verdict.the-variants.{Refused}
-use Rattle.filter.specs.Seen.{hidden, boxesOf}
+use Rattle.refusal.specs.Answer.{isDone}
+use Rattle.boxes.specs.Boxes.{hidden, boxesOf}
 
 -- 1 where a box of the ticket as read holds the pixel at column c, row r, else 0
 abbrev pub hiddenBy : List ℕ → ℕ → ℕ → ℕ
 hiddenBy ticket c r = cond (hidden (boxesOf (reading ticket .ticket)) c r) 1 0
 
 -- "at a refusal all fields and boxes are zero": a refused ticket has no boxes, and hides nothing
-pub refused-hides-nothing : (ticket : List ℕ) (fault : Fault) (at c r : ℕ) → judged ticket ≡ Refused fault at → hiddenBy ticket c r ≡ 0
+pub refused-hides-nothing : (ticket : List ℕ) (c r : ℕ) → isDone (judged ticket) ≡ false → hiddenBy ticket c r ≡ 0
 unfolding blank hidden boxesOf
-refused-hides-nothing ticket fault at c r e = rw (reading-refused ticket fault at e)
+refused-hides-nothing ticket c r e = rw (reading-refused ticket e)

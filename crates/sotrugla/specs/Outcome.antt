@@ -3,9 +3,9 @@
 use Prim.Native.Nat.{ℕ}
 use mathlib.Core.Bool.{_&&_, cond}
 use Rattle.tray.specs.Placement.{sideAllowed, scratchNeeded}
-use Rattle.answer.specs.Answer.{numberOf, placeOf, workIn}
-use Rattle.answer.specs.declared.Answer.{Answer}
-use Rattle.filter.specs.declared.Placements.{Placements}
+use Rattle.refusal.specs.Answer.{numberOf, placeOf, workIn}
+use Rattle.refusal.specs.declared.Answer.{Answer}
+use Rattle.tray.specs.declared.Placements.{Placements}
 use Rattle.sotrugla.specs.declared.Outcome.{Outcome}
 
 -- width, height, source offset and stride, output offset and stride
@@ -18,10 +18,14 @@ placementsOf width height from apart to between =
       output = record { offset = to; stride = between };
     }
 
--- the refusal's number, 0 for a finished page; its place; the work
+-- the refusal's number, 0 for what is done; its place; the work
 abbrev pub outcomeOf : Answer → Outcome
 outcomeOf a = record { refusal = numberOf a; place = placeOf a; work = workIn a }
 
+-- how many pages a job keeps in the scratch: "2·w·h + 3·max(w, h) bytes"
+abbrev pub jobPages : ℕ
+jobPages = 2
+
 -- the scratch that a page of these sides needs, or 0 where a side is beyond its limits
 abbrev pub scratchFor : ℕ → ℕ → ℕ
-scratchFor width height = cond (sideAllowed width && sideAllowed height) (scratchNeeded width height) 0
+scratchFor width height = cond (sideAllowed width && sideAllowed height) (scratchNeeded jobPages width height) 0

@@ -10,12 +10,10 @@ use mathlib.Core.List.{List, [], _∷_, _++_}
 use lib.ListN.{length, drop}
 use lib.Dec.{ltb}
 use lib.IntN.{ℤ, pos, negsuc, natAbs}
-use Rattle.ticket.specs.Judging as Judging
 use Rattle.ticket.specs.Reading.{reading}
 use Rattle.ticket.specs.declared.HiddenBox.{HiddenBox}
 use Rattle.ticket.specs.declared.Ticket.{Ticket}
-use Rattle.ticket.specs.declared.Verdict.{Verdict}
-use Rattle.ticket.specs.declared.Verdict.the-variants.{Good, Refused}
+use Rattle.sotrugla.specs.Outcome.{outcomeOf}
 use Rattle.sotrugla.specs.declared.Outcome.{Outcome}
 
 -- a signed number in 64 bits, two's complement
@@ -40,16 +38,11 @@ numbersOf t = fieldNumbers t (boxNumbers (t .boxes))
 abbrev pub numbersNeeded : ℕ
 numbersNeeded = 264
 
--- refusals 1 to 9, or 0
-unfoldable pub verdictOutcome : Verdict → Outcome
-verdictOutcome Good = record { refusal = 0; place = 0; work = 0 }
-verdictOutcome (Refused fault at) = record { refusal = Judging.numberOf fault; place = at; work = 0 }
-
 -- 100, and how many numbers are needed, where the buffer of n numbers is too short for them. 100 is ours: the documents'
 -- refusals are 1 to 25.
 unfoldable pub readOutcome : List ℕ → ℕ → Outcome
 readOutcome ticket n =
-    cond (ltb n numbersNeeded) (record { refusal = 100; place = numbersNeeded; work = 0 }) (verdictOutcome (reading ticket .verdict))
+    cond (ltb n numbersNeeded) (record { refusal = 100; place = numbersNeeded; work = 0 }) (outcomeOf (reading ticket .answer))
 
 -- the buffer: too short a one is not written, and of a longer one the numbers past the 264th keep their values
 unfoldable pub numbersAfter : List ℕ → List ℕ → List ℕ

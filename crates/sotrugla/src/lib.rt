@@ -5,12 +5,14 @@ mod shown; // shown.rt: a ticket alone, as a row of numbers
 
 ghost use mathlib.Core.Path.{_≡_};
 ghost use lib.ListN.{length};
-ghost use Rattle.filter.specs.Job.{lengths, answer, outputAfter, scratchAfter};
+ghost use Rattle.job.specs.Job.{lengths, answer, outputAfter, scratchAfter};
 ghost use Rattle.sotrugla.specs.Shown.{readOutcome, numbersAfter};
 ghost use Rattle.sotrugla.specs.Outcome.{placementsOf, outcomeOf, scratchFor};
 ghost use Rattle.sotrugla.specs.Hiding.{hiddenBy};
-use filter::Placements;
-use filter::Spot;
+use refusal::Answer;
+use refusal::report;
+use tray::Placements;
+use tray::Spot;
 
 // An answer: refusal is 0 for a finished page or a ticket that was read, else the number of the refusal. 1 to 25 are the
 // documents' (1 to 14 so far); 100 is ours and means a buffer of numbers that is too short.
@@ -47,6 +49,17 @@ fn placements(
     }
 }
 
+// An answer as the numbers that a host reads.
+fn outcome_of(a: Answer) -> Outcome
+    ensures { λ r. ⌜ r ≡ outcomeOf a ⌝ }
+{
+    Outcome {
+        refusal: report::number(a) as u64,
+        place: report::place(a) as u64,
+        work: report::work(a),
+    }
+}
+
 // Filters one page of the source tray into the output tray, as the ticket says.
 #[no_mangle]
 pub extern "C" fn sotrugla_run(
@@ -73,13 +86,11 @@ pub extern "C" fn sotrugla_run(
         output_offset,
         output_stride,
     );
-    let given = filter::job::run(ticket, at, source, output, scratch);
-    Outcome {
-        refusal: answer::report::number(given) as u64,
-        place: answer::report::place(given) as u64,
-        work: answer::report::work(given),
-    }
+    outcome_of(job::job::run(ticket, at, source, output, scratch))
 }
+
+// How many pages a job keeps in the scratch.
+const JOB_PAGES: usize = 2;
 
 // How many bytes of scratch a page of these sides needs; 0 where a side is beyond its limits.
 #[no_mangle]
@@ -92,7 +103,7 @@ pub extern "C" fn sotrugla_scratch_needed(width: usize, height: usize) -> usize
     if !tray::place::is_side(height) {
         return 0;
     }
-    tray::place::scratch_needed(width, height)
+    tray::place::scratch_needed(JOB_PAGES, width, height)
 }
 
 // What every function answers that is handed a buffer of numbers too short: its place is the numbers needed, and nothing is
@@ -115,9 +126,9 @@ pub extern "C" fn sotrugla_read_ticket(ticket: &[u8], numbers: &mut [u64]) -> Ou
         };
     }
     let reading = ticket::read(ticket);
-    let verdict = reading.verdict;
+    let answer = reading.answer;
     shown::put_ticket(reading.ticket, numbers);
-    shown::verdict_outcome(verdict)
+    outcome_of(answer)
 }
 
 // Whether a box of the ticket hides the pixel at column, row: 1 or 0. A refused ticket is shown without boxes and hides nothing. The

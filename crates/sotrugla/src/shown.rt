@@ -1,14 +1,12 @@
 // A ticket as shown, written as a row of numbers: eight for its fields and how many boxes it has, four for each of 64 box places.
-use super::Outcome;
 use ticket::HiddenBox;
 use ticket::Ticket;
-use ticket::Verdict;
 ghost use mathlib.Core.Path.{_≡_};
 ghost use mathlib.Core.List.{[], _∷_, _++_};
 ghost use Prim.Native.Nat.{_+_, _≤_};
 ghost use lib.ListN.{length, drop};
 ghost use lib.Seq.{sets};
-ghost use Rattle.sotrugla.specs.Shown.{wordOf, fieldNumbers, boxNumbers, numbersOf, numbersNeeded, verdictOutcome, Showable};
+ghost use Rattle.sotrugla.specs.Shown.{wordOf, fieldNumbers, boxNumbers, numbersOf, numbersNeeded, Showable};
 
 // 8 + 4 * 64
 pub const NUMBERS: usize = 264;
@@ -77,21 +75,4 @@ pub fn put_ticket(t: Ticket, numbers: &mut [u64])
     put_fields(t, numbers);
     let boxes = t.boxes;
     put_boxes(boxes, numbers);
-}
-
-pub fn verdict_outcome(v: Verdict) -> Outcome
-    ensures { λ r. ⌜ r ≡ verdictOutcome v ⌝ }
-{
-    match v {
-        Verdict::Good => Outcome {
-            refusal: 0,
-            place: 0,
-            work: 0,
-        },
-        Verdict::Refused(fault, at) => Outcome {
-            refusal: ticket::fault_number(fault) as u64,
-            place: at as u64,
-            work: 0,
-        },
-    }
 }

@@ -7,7 +7,7 @@ use borrow.Author.Needs.{needs}
 use denote.Ref.{now}
 use Rattle.ticket.specs.Reading.{reading}
 use Rattle.ticket.specs.declared.Reading.{Reading}
-use Rattle.filter.specs.Seen.{hidden, boxesOf}
+use Rattle.boxes.specs.Boxes.{hidden, boxesOf}
 use Rattle.sotrugla.specs.Hiding.{hiddenBy}
 use Rattle.sotrugla.proofs.Numbers.{read-showable}
 use Rattle.sotrugla.proofs.sotrugla_is_hidden.Statement.{statement}

@@ -5,15 +5,12 @@ use Rattle.sotrugla.proofs.sotrugla_run.Statement.{statement}
 use Rattle.sotrugla.proofs.sotrugla_run.Tie as tie
 
 returns : tie.Need-returns
-returns c =
-    told _ _ _ _ _ _ _ _ _ _ _ _ (c .before .before .before .before .before .before .before .before .before .before .placements .ensures) (c .before .before .before .before .before .before .before .run .ensures) (c .before .before .number .ensures) (c .before .place .ensures) (c .work .ensures)
+returns c = told _ _ _ _ _ _ _ _ _ _ (@placements .ensures) (@run .ensures) (@outcome-of .ensures)
 
 pub sotrugla-run-spec : {M : Type 1} → statement M
 sotrugla-run-spec =
     tie.close
     (tie.spec
-    (λ c κs. search needs)
-    (λ c κs. search needs)
     (λ c κs. search needs)
     (λ c κs. search needs)
     (λ c κs. search needs)

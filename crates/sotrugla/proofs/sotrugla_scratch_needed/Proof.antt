@@ -22,7 +22,7 @@ scratch-needed-requires : tie.Need-scratch-needed-requires
 scratch-needed-requires c κs =
     let wide = side-limit _ (sym (c .before .before .before .is-side .ensures) ∙ not-false _ (c .before .before .if1 .left)) in
     let high = side-limit _ (sym (c .before .is-side2 .ensures) ∙ not-false _ (c .if2 .left)) in
-    (omega (arith, wide, high), omega (arith, wide, high))
+    (omega arith, omega (arith, wide, high), omega (arith, wide, high))
 
 returns-3 : tie.Need-returns-3
 returns-3 c =
