@@ -45,8 +45,8 @@ shallow-is dx dy e = slope.shallow-is dx dy e
 pub steep-is : (dx dy : ℤ) → steep dx dy ≡ true → Steep dx dy
 steep-is dx dy e = slope.steep-is dx dy e
 
--- whether a vector is shallow, or steep, as a test on plain numbers where its component along the major axis is a; where
--- that component is below zero, the vector is not
+-- whether a vector is shallow, or steep, as a test on plain numbers where its component along the major axis is a; with
+-- that component below zero, it is not
 pub shallow-forward : (a : ℕ) (dy : ℤ) → shallow (pos a) dy ≡ leb 1 a && leb (natAbs dy) a
 unfolding shallow
 shallow-forward a dy = refl
