@@ -43,10 +43,7 @@ fn run(name: &[u8], bytes: [u8; 41], size: usize, source: &[u8], height: usize, 
     if report::is_done(answer) {
         text::print_done(report::work(answer), output);
     } else {
-        text::print_refused(
-            report::number(answer),
-            report::place(answer),
-        );
+        text::print_refused(report::number(answer), report::place(answer));
     }
 }
 

@@ -4,9 +4,7 @@ use mathlib.Core.Bool.{Bool, true, false}
 use Prim.Native.Nat.{ℕ, _-_, _≤_, _<_}
 use native.Mathlib.Omega.{arith}
 use mir.Syntax.{w32}
-use mir.Val.{SFits, toZ, ofZ}
-use mir.ValLaws.{toZ-ofZ}
-use lib.IntN.{ℤ, pos, negsuc, natAbs}
+use mir.Val.{toZ, ofZ}
 use Rattle.geometry.specs.Line.{period}
 use Rattle.geometry.specs.Drift as Drift
 use Rattle.geometry.specs.Laws as Lines
@@ -21,23 +19,14 @@ use Rattle.filter.specs.Engine.{steepOf, backOf, gridOf, Fair}
 use Rattle.filter.specs.declared.Recipe.{Recipe}
 use Rattle.filter.specs.declared.Segment.{Segment}
 
--- ---- a component as the code passes it on
-
-component-fits : (z : ℤ) → natAbs z ≤ 255 → SFits w32 z
-component-fits (pos n) h = record { sfits = omega arith }
-component-fits (negsuc n) h = record { sfits = omega arith }
-
-component-back : (z : ℤ) → natAbs z ≤ 255 → toZ w32 (ofZ w32 z) ≡ z
-component-back z h = toZ-ofZ w32 z (component-fits z h)
-
 -- whether a line runs steep, asked of the components as they are passed on
 pub steep-as :
     (given line : Line) → given ≡ line → Drift.Allowed line
     → steep (toZ w32 (ofZ w32 (given .dx))) (toZ w32 (ofZ w32 (given .dy))) ≡ runsSteep line
 unfolding runsSteep
 steep-as given line e ok =
-    ap₂ steep (ap (λ (l : Line). toZ w32 (ofZ w32 (l .dx))) e ∙ component-back (line .dx) (ok .dx-near))
-    (ap (λ (l : Line). toZ w32 (ofZ w32 (l .dy))) e ∙ component-back (line .dy) (ok .dy-near))
+    ap₂ steep (ap (λ (l : Line). toZ w32 (ofZ w32 (l .dx))) e ∙ Lines.component-back (line .dx) (ok .dx-near))
+    (ap (λ (l : Line). toZ w32 (ofZ w32 (l .dy))) e ∙ Lines.component-back (line .dy) (ok .dy-near))
 
 -- ---- the window
 

@@ -23,6 +23,9 @@ use borrow.Author.Tests.{leb-true, leb-false}
 use lib.Dec.{ltb, leb}
 use lib.IntN.{ℤ, pos, negsuc, natAbs, _+ℤ_, _*ℤ_}
 use lib.Signed.{_≤ℤ_, _<ℤ_}
+use mir.Syntax.{w32}
+use mir.Val.{SFits, toZ, ofZ}
+use mir.ValLaws.{toZ-ofZ}
 use Rattle.geometry.specs.Vector.{shallow, steep, Shallow, Steep, majorOf}
 use Rattle.geometry.specs.Line.{floorDiv, period, profile, landing, stepOf, majorAt}
 use Rattle.geometry.specs.Number.{within, inPage, behind, ahead}
@@ -71,6 +74,14 @@ major-larger dx dy e = slope.runs dx dy e .larger
 pub phase-allowed : (dx dy : ℤ) (i : ℕ) → shallow dx dy || steep dx dy ≡ true → i < max (natAbs dx) (natAbs dy)
     → i < majorOf dx dy
 phase-allowed dx dy i e h = rw (major-larger dx dy e) h
+
+-- a component is the same number after it was passed on in 32 bits
+component-fits : (z : ℤ) → natAbs z ≤ 255 → SFits w32 z
+component-fits (pos n) h = record { sfits = omega arith }
+component-fits (negsuc n) h = record { sfits = omega arith }
+
+pub component-back : (z : ℤ) → natAbs z ≤ 255 → toZ w32 (ofZ w32 z) ≡ z
+component-back z h = toZ-ofZ w32 z (component-fits z h)
 
 -- every vector that a ticket may have is sound
 pub sound : (l : Line) → shallow (l .dx) (l .dy) || steep (l .dx) (l .dy) ≡ true → Sound l

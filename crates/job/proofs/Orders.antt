@@ -5,10 +5,9 @@ use Prim.Native.Nat.{ℕ, _≤_, _<_}
 use native.Mathlib.Decide.{decLe}
 use native.Mathlib.Omega.{arith}
 use mir.Syntax.{w32}
-use mir.Val.{SFits, toZ, ofZ}
-use mir.ValLaws.{toZ-ofZ}
+use mir.Val.{toZ, ofZ}
 use lib.Dec.{eqb}
-use lib.IntN.{ℤ, pos, negsuc, natAbs}
+use lib.IntN.{ℤ}
 use Rattle.geometry.specs.Drift as Drift
 use Rattle.geometry.specs.Laws as Lines
 use Rattle.geometry.specs.Vector.{majorOf}
@@ -19,15 +18,6 @@ use Rattle.ticket.specs.declared.Ticket.{Ticket}
 use Rattle.filter.specs.Engine.{Fair}
 use Rattle.filter.specs.declared.Recipe.{Recipe}
 use Rattle.job.specs.Order.{lineOf, segmentOf, recipeOf, white}
-
--- ---- a component as the code passes it on
-
-component-fits : (z : ℤ) → natAbs z ≤ 255 → SFits w32 z
-component-fits (pos n) h = record { sfits = omega arith }
-component-fits (negsuc n) h = record { sfits = omega arith }
-
-component-back : (z : ℤ) → natAbs z ≤ 255 → toZ w32 (ofZ w32 z) ≡ z
-component-back z h = toZ-ofZ w32 z (component-fits z h)
 
 module _ (t : Ticket) (ok : Allowed t) where
   pub recipe-as :
@@ -67,8 +57,8 @@ module _ (t : Ticket) (ok : Allowed t) where
         count = t .count;
         boxes = t .boxes;
       })
-      (component-back (t .dx) (ok .dx-to))
-      (component-back (t .dy) (ok .dy-to))
+      (Lines.component-back (t .dx) (ok .dx-to))
+      (Lines.component-back (t .dy) (ok .dy-to))
 
   -- ---- its line and its segment
 

@@ -7,8 +7,6 @@ use Prim.Native.Nat.{ℕ, _+_, _*_, _≤_, _<_}
 use native.Mathlib.Nat.{mul-le-mul-right}
 use native.Mathlib.Decide.{decLt}
 use native.Mathlib.Omega.{arith}
-use borrow.Author.Tests.{leb-true}
-use lib.Dec.{leb}
 use lib.ListN.{length, getD, take}
 use lib.Seq.{ext-getD}
 use Rattle.refusal.specs.Answer.{isDone, whenDone}
@@ -23,7 +21,8 @@ use Rattle.ticket.specs.declared.Reading.{Reading}
 use Rattle.ticket.specs.declared.Ticket.{Ticket}
 use Rattle.boxes.specs.Boxes.{boxesOf}
 use Rattle.hiding.specs.Hiding.{BoxesLie}
-use Rattle.tray.specs.Placement.{allowed, sideAllowed, sourcePage, outputPage, scratchNeeded, pixelIn}
+use Rattle.tray.specs.Placement.{allowed, sourcePage, outputPage, scratchNeeded, pixelIn}
+use Rattle.tray.specs.Laws as tray
 use Rattle.tray.specs.Laws.{length-cleared, cleared-below, cleared-above, scratch-pages}
 use Rattle.tray.specs.Promises.{Placed}
 use Rattle.tray.specs.Written.{written, cleared}
@@ -44,22 +43,13 @@ use Rattle.job.proofs.Orders.{segment-fair}
 
 -- ---- sides within their limits
 
-sides-small : (p : Placement) → allowed p ≡ true → (p .width ≤ 8192) × (p .height ≤ 8192)
-unfolding allowed sideAllowed
-sides-small p e =
-    let sides = and-eq-true-iff (sideAllowed (p .width) && sideAllowed (p .height)) _ .0 e .0 in
-    let both = and-eq-true-iff (sideAllowed (p .width)) (sideAllowed (p .height)) .0 sides in
-    let width = and-eq-true-iff (leb 1 (p .width)) (leb (p .width) 8192) .0 (both .0) in
-    let height = and-eq-true-iff (leb 1 (p .height)) (leb (p .height) 8192) .0 (both .1) in
-    (leb-true (p .width) 8192 (width .1), leb-true (p .height) 8192 (height .1))
-
 pub scratch-as :
     (t : Ticket) (p : Placements) (pages : ℕ) → pages ≡ pagesOf t → isDone (judgeSides p) ≡ true
     → (pages ≤ 3) × (p .width ≤ 8192) × (p .height ≤ 8192)
 unfolding judgeSides sourcePage
 scratch-as t p pages e done =
     let both = unless-done (allowed (sourcePage p) && allowed (outputPage p)) BadSides 0 done in
-    let small = sides-small (sourcePage p) (and-eq-true-iff (allowed (sourcePage p)) (allowed (outputPage p)) .0 both .0) in
+    let small = tray.sides-most (sourcePage p) (and-eq-true-iff (allowed (sourcePage p)) (allowed (outputPage p)) .0 both .0) in
     (omega (arith, pages-most t), small .0, small .1)
 
 pub needed-as :

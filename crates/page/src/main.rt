@@ -88,10 +88,7 @@ fn filter_page(
     if report::is_done(answer) {
         text::print_done(report::work(answer), output, w);
     } else {
-        text::print_refused(
-            report::number(answer),
-            report::place(answer),
-        );
+        text::print_refused(report::number(answer), report::place(answer));
     }
 }
 

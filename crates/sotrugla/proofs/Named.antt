@@ -15,11 +15,10 @@ pub told :
     → told ≡ outcomeOf given
     → (told ≡ outcomeOf (answer ticket q (lengths source output scratch)))
     × ((after ≡ outputAfter ticket q source output scratch) × (used ≡ scratchAfter ticket q source output scratch))
-told ticket p q source output scratch after used given told same ran is =
-    (
-      is ∙ ap outcomeOf (ran .0 ∙ ap (λ (x : Placements). answer ticket x (lengths source output scratch)) same),
-      (
-        ran .1 .0 ∙ ap (λ (x : Placements). outputAfter ticket x source output scratch) same,
-        ran .1 .1 ∙ ap (λ (x : Placements). scratchAfter ticket x source output scratch) same,
-      ),
-    )
+told ticket p q source output scratch after used given told same ran is = (
+  is ∙ ap outcomeOf (ran .0 ∙ ap (λ (x : Placements). answer ticket x (lengths source output scratch)) same),
+  (
+    ran .1 .0 ∙ ap (λ (x : Placements). outputAfter ticket x source output scratch) same,
+    ran .1 .1 ∙ ap (λ (x : Placements). scratchAfter ticket x source output scratch) same,
+  ),
+)

@@ -1,10 +1,7 @@
 -- What the tests of two sides say of the scratch. Assumes nothing.
 use mathlib.Core.Path.{_≡_, refl, sym, ap}
 use mathlib.Core.Bool.{Bool, true, false, _&&_, cond}
-use Prim.Native.Nat.{ℕ, _≤_}
-use lib.Dec.{leb}
-use borrow.Author.Tests.{leb-true}
-use Rattle.tray.specs.Placement.{sideAllowed, longestSide}
+use Prim.Native.Nat.{ℕ}
 
 module _ (wide high : Bool) (needed : ℕ) where
   pub none-wide : wide ≡ false → 0 ≡ cond (wide && high) needed 0
@@ -15,11 +12,3 @@ module _ (wide high : Bool) (needed : ℕ) where
 
   pub needed-both : wide ≡ true → high ≡ true → needed ≡ cond (wide && high) needed 0
   needed-both e f = rw (e, f) refl
-
-second : (a b : Bool) → (a && b) ≡ true → b ≡ true
-second true b h = h
-second false b h = cc
-
-pub side-limit : (n : ℕ) → sideAllowed n ≡ true → n ≤ longestSide
-unfolding sideAllowed
-side-limit n h = leb-true n longestSide (second (leb 1 n) (leb n longestSide) h)

@@ -19,13 +19,25 @@ use Rattle.geometry.specs.Drift.{mirrored}
 use Rattle.geometry.specs.Laws.{mirrored-below, mirrored-twice}
 use Rattle.tray.specs.declared.Layout.{Layout}
 use Rattle.tray.specs.declared.Placement.{Placement}
-use Rattle.tray.specs.Placement.{rowStart, byteOf, pixelIn, sideAllowed, allowed, fits, scratchNeeded}
+use Rattle.tray.specs.Placement.{rowStart, byteOf, pixelIn, longestSide, sideAllowed, allowed, fits, scratchNeeded}
 use Rattle.tray.specs.Written.{columnOf, rowOf, inside, writtenFrom, written, cleared}
 use Rattle.tray.specs.Promises.{Placed}
 use Rattle.tray.specs.Turned.{downOf, acrossOf, compactWidth, compactHeight, compactRow, compactColumn, compactAt}
 use Rattle.tray.specs.Turned.{pageColumn, pageRow, compactOf}
 
 -- ---- pages that fit, and their rows
+
+-- what a side within its limits is, as a fact
+pub side-most : (n : ℕ) → sideAllowed n ≡ true → n ≤ longestSide
+unfolding sideAllowed
+side-most n ok = leb-true n longestSide (and-eq-true-iff (leb 1 n) (leb n longestSide) .0 ok .1)
+
+pub sides-most : (p : Placement) → allowed p ≡ true → (p .width ≤ longestSide) × (p .height ≤ longestSide)
+unfolding allowed
+sides-most p ok =
+    let sides = and-eq-true-iff (sideAllowed (p .width) && sideAllowed (p .height)) _ .0 ok .0 in
+    let both = and-eq-true-iff (sideAllowed (p .width)) (sideAllowed (p .height)) .0 sides in
+    (side-most (p .width) (both .0), side-most (p .height) (both .1))
 
 -- what the two decisions say, as facts
 pub placed : (p : Placement) (n : ℕ) → allowed p ≡ true → fits p n ≡ true → Placed p n

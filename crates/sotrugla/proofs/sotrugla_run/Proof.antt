@@ -5,7 +5,7 @@ use Rattle.sotrugla.proofs.sotrugla_run.Statement.{statement}
 use Rattle.sotrugla.proofs.sotrugla_run.Tie as tie
 
 returns : tie.Need-returns
-returns c = told _ _ _ _ _ _ _ _ _ _ (@placements .ensures) (@run .ensures) (@outcome-of .ensures)
+returns c = told _ _ _ _ _ _ _ _ _ _ (c .before .before .before .before .before .before .before .before .placements .ensures) (c .before .before .before .before .before .run .ensures) (c .outcome-of .ensures)
 
 pub sotrugla-run-spec : {M : Type 1} → statement M
 sotrugla-run-spec =

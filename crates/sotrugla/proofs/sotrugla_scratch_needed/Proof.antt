@@ -3,8 +3,9 @@ use mathlib.Core.Path.{sym, _∙_}
 use native.Mathlib.Omega.{arith}
 use borrow.Author.Needs.{needs}
 use borrow.Author.Tests.{not-true, not-false}
+use Rattle.tray.specs.Laws.{side-most}
 use Rattle.tray.specs.Placement.{sideAllowed}
-use Rattle.sotrugla.proofs.Sides.{none-wide, none-high, needed-both, side-limit}
+use Rattle.sotrugla.proofs.Sides.{none-wide, none-high, needed-both}
 use Rattle.sotrugla.proofs.sotrugla_scratch_needed.Statement.{statement}
 use Rattle.sotrugla.proofs.sotrugla_scratch_needed.Tie as tie
 
@@ -20,8 +21,8 @@ returns-2 c =
 
 scratch-needed-requires : tie.Need-scratch-needed-requires
 scratch-needed-requires c κs =
-    let wide = side-limit _ (sym (c .before .before .before .is-side .ensures) ∙ not-false _ (c .before .before .if1 .left)) in
-    let high = side-limit _ (sym (c .before .is-side2 .ensures) ∙ not-false _ (c .if2 .left)) in
+    let wide = side-most _ (sym (c .before .before .before .is-side .ensures) ∙ not-false _ (c .before .before .if1 .left)) in
+    let high = side-most _ (sym (c .before .is-side2 .ensures) ∙ not-false _ (c .if2 .left)) in
     (omega arith, omega (arith, wide, high), omega (arith, wide, high))
 
 returns-3 : tie.Need-returns-3
