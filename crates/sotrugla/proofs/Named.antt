@@ -9,13 +9,13 @@ use Rattle.sotrugla.specs.Outcome.{outcomeOf}
 use Rattle.sotrugla.specs.declared.Outcome.{Outcome}
 
 pub told :
-    (ticket : List ℕ) (p q : Placements) (source output scratch after used : List ℕ) (given : Answer) (told : Outcome) → p ≡ q
+    (ticket : List ℕ) (p q : Placements) (source output scratch after used : List ℕ) (given : Answer) (said : Outcome) → p ≡ q
     → (given ≡ answer ticket p (lengths source output scratch))
     × ((after ≡ outputAfter ticket p source output scratch) × (used ≡ scratchAfter ticket p source output scratch))
-    → told ≡ outcomeOf given
-    → (told ≡ outcomeOf (answer ticket q (lengths source output scratch)))
+    → said ≡ outcomeOf given
+    → (said ≡ outcomeOf (answer ticket q (lengths source output scratch)))
     × ((after ≡ outputAfter ticket q source output scratch) × (used ≡ scratchAfter ticket q source output scratch))
-told ticket p q source output scratch after used given told same ran is = (
+told ticket p q source output scratch after used given said same ran is = (
   is ∙ ap outcomeOf (ran .0 ∙ ap (λ (x : Placements). answer ticket x (lengths source output scratch)) same),
   (
     ran .1 .0 ∙ ap (λ (x : Placements). outputAfter ticket x source output scratch) same,
