@@ -21,10 +21,11 @@ use Rattle.runs.specs.declared.Grid.{Grid}
 use Rattle.filter.specs.Seen.{View}
 use Rattle.filter.specs.Filters.{valueAt, onLine, inWindow, extreme, pass}
 use Rattle.filter.specs.Engine.{neutral, orNeutral, Absent, Bytes, Shows}
-use Rattle.filter.proofs.Neutral.{orNeutral-small, extreme-best, extreme-there, there-is}
+use Rattle.filter.specs.Laws.{extreme-there, own-value, pass-there}
+use Rattle.filter.proofs.Neutral.{orNeutral-small, extreme-best, there-is}
 use Rattle.filter.proofs.Extremes.{window-is}
 use Rattle.filter.proofs.Steps.{normal, nameOf, place-below, row-of-step, in-page-on, on-in-page, own-on}
-use Rattle.filter.proofs.Kept.{window-small, own-value, pass-there}
+use Rattle.filter.proofs.Kept.{window-small}
 
 -- the column of a step, for a pixel at x and the drifts t at its step and s at the other
 column-of-step : (W x t s y : ℕ) → x < W → y + t ≡ x + s → W + s - (W + t - x) ≡ y

@@ -3,10 +3,8 @@
 -- Assumes nothing.
 use mathlib.Core.Path.{_≡_, refl, sym, ap, _∙_}
 use mathlib.Core.Bool.{Bool, true, false}
-use mathlib.Core.Logic.{by-cases}
 use mathlib.Core.Option.{Option, none, some, Option·some-injective, Option·none-ne-some}
-use Prim.Native.Nat.{ℕ, zero, suc, _+_, _≤_, _<_}
-use native.Mathlib.Decide.{decLt}
+use Prim.Native.Nat.{ℕ, zero, suc, _≤_}
 use native.Mathlib.Omega.{arith}
 use Rattle.geometry.specs.Drift.{falls, mirrored}
 use Rattle.runs.specs.Span.{chosen, best}
@@ -88,35 +86,6 @@ module _ (low : Bool) (value : ℕ → Option ℕ) (bytes : (k : ℕ) → Small 
   extreme-best k (suc n) =
       joined-chosen low (value k) (extreme low value (suc k) (suc n)) (bytes k) (extreme-small (suc k) (suc n))
       ∙ ap (chosen low (orNeutral low (value k))) (extreme-best (suc k) n)
-
--- ---- a window with a value that is there has an extreme
-
-joined-first : (low : Bool) (v : ℕ) (y : Option ℕ) → (w : ℕ) × (joined low (some v) y ≡ some w)
-unfolding joined
-joined-first low v none = (v, refl)
-joined-first low v (some y) = (chosen low v y, refl)
-
-joined-last : (low : Bool) (x : Option ℕ) (v : ℕ) → (w : ℕ) × (joined low x (some v) ≡ some w)
-unfolding joined
-joined-last low none v = (v, refl)
-joined-last low (some x) v = (chosen low x v, refl)
-
-pub extreme-there : (low : Bool) (value : ℕ → Option ℕ) (k n q v : ℕ) → k ≤ q → q < k + n → value q ≡ some v → (w : ℕ) × (extreme low value k n ≡ some w)
-unfolding extreme
-extreme-there low value k zero q v from to e = absurd (omega arith)
-extreme-there low value k (suc n) q v from to e =
-    by-cases
-    (decLt k q)
-    (λ h.
-    let rest = extreme-there low value (suc k) n q v h (omega arith) e in
-    let all = joined-last low (value k) (rest .0) in
-    (all .0, ap (joined low (value k)) (rest .1) ∙ all .1))
-    (λ h.
-    let all = joined-first low v (extreme low value (suc k) n) in
-    (all .0, ap (λ (o : Option ℕ). joined low o (extreme low value (suc k) n)) (ap value (same h) ∙ e) ∙ all .1))
-  where
-    same : ¬ (k < q) → k ≡ q
-    same h = omega arith
 
 -- a value that is there is what stands for it
 pub there-is : (low : Bool) (o : Option ℕ) (w : ℕ) → o ≡ some w → o ≡ some (orNeutral low o)

@@ -27,7 +27,8 @@ use Rattle.filter.specs.Engine.{neutral, orNeutral, Absent, Bytes, Shows
 use Rattle.filter.proofs.Bridge.{bridge}
 use Rattle.filter.proofs.Charges.{work}
 use Rattle.filter.proofs.Grids.{grid-sized}
-use Rattle.filter.proofs.Kept.{pass-bytes, pass-absent, pass-off}
+use Rattle.filter.specs.Laws.{pass-absent}
+use Rattle.filter.proofs.Kept.{pass-bytes, pass-off}
 
 -- ---- columns and rows, and places on the axes
 
