@@ -1,19 +1,18 @@
 -- One pass as the filter defines it, over a page with absent pixels, is one pass of the sweeps over the plain numbers that show the page.
 -- Assumes nothing.
 use mathlib.Core.Path.{_≡_, refl, sym, ap, ap₂, _∙_}
-use mathlib.Core.Bool.{Bool, true, _&&_, cond}
-use mathlib.Core.Logic.{by-cases}
+use mathlib.Core.Bool.{Bool, true, false, cond}
+use mathlib.Core.Logic.{⊎-elim, by-cases}
 use mathlib.Core.Option.{Option, none, some}
 use Prim.Native.Nat.{ℕ, suc, _+_, _-_, _≤_, _<_}
 use native.Mathlib.Nat.{sub-zero}
-use native.Mathlib.Decide.{decLt, decLe}
+use native.Mathlib.Decide.{decLe}
 use native.Mathlib.Omega.{arith}
-use borrow.Author.Tests.{le-leb, lt-leb, lt-ltb}
-use lib.Dec.{ltb}
-use Rattle.geometry.specs.Line.{landing, stepOf, majorAt}
-use Rattle.geometry.specs.Number.{within, inPage}
+use borrow.Author.Tests.{le-leb, lt-leb}
+use Rattle.geometry.specs.Line.{stepOf, majorAt}
+use Rattle.geometry.specs.Number.{inPage}
 use Rattle.geometry.specs.Drift.{falls, drift, mirrored}
-use Rattle.geometry.specs.Laws.{inside, lands}
+use Rattle.geometry.specs.Laws.{inside, lands, out-of-page, not-in-page}
 use Rattle.runs.specs.Span.{best, span}
 use Rattle.runs.specs.Grid.{Page, Sized, startRow, lineName, entry, leave, steps, columnAt, along, number, lineSteps, windowedAt}
 use Rattle.runs.specs.GridLaws.{on-page, page-on, start-small, number-is, number-below}
@@ -31,16 +30,6 @@ use Rattle.filter.proofs.Kept.{window-small}
 column-of-step : (W x t s y : ℕ) → x < W → y + t ≡ x + s → W + s - (W + t - x) ≡ y
 column-of-step W x t s y h e = omega arith
 
--- nothing is found off the page
-off-page : (H W : ℕ) (page : View) → Absent H W page → (R : ℕ) (o : Option ℕ) → (ltb R H && within o W ≡ true → ⊥) → valueAt page R o ≡ none
-unfolding valueAt within
-off-page H W page off R none out = refl
-off-page H W page off R (some m) out =
-    by-cases
-    (decLt R H)
-    (λ h. by-cases (decLt m W) (λ k. absurd (out (ap₂ _&&_ (lt-ltb R H h) (lt-ltb m W k)))) (λ k. off .beside R m (omega arith)))
-    (λ h. off .below R m (omega arith))
-
 module _ (g : Grid) (sized : Sized g) (page : View) (off : Absent (g .height) (g .width) page) (bytes : Bytes page) (f : Page) (shows : Shows g page f) (M m : ℕ) (rows : M < g .height) (columns : m < g .width) where
   -- a step of the line that is in the page, and one that is not
   value-on : (s : ℕ) → entry g (nameOf g M m) ≤ s → s < leave g (startRow g M) (nameOf g M m)
@@ -57,11 +46,17 @@ module _ (g : Grid) (sized : Sized g) (page : View) (off : Absent (g .height) (g
       ∙ ap₂ f (row-of-step g sized M m rows columns s) (sym column)
       ∙ page-on g sized (startRow g M) (nameOf g M m) s (start-small g sized M (normal g m) rows (place-below g sized M m rows columns)) (on-page g sized _ _ s h k) f
 
-  value-off : (s : ℕ) → ((entry g (nameOf g M m) ≤ s) → (s < leave g (startRow g M) (nameOf g M m)) → ⊥) → onLine (g .line) page M m s ≡ none
-  unfolding onLine inPage
+  value-off : (s : ℕ)
+      → ((entry g (nameOf g M m) ≤ s) → (s < leave g (startRow g M) (nameOf g M m)) → ⊥)
+      → onLine (g .line) page M m s ≡ none
+  unfolding onLine valueAt
   value-off s out =
-      off-page (g .height) (g .width) page off (majorAt (g .line) M s) (landing (g .line) m (stepOf (g .line) M) s)
-      (λ e. let on = in-page-on g sized M m rows columns s e in out (on .0) (on .1))
+      let R : ℕ = majorAt (g .line) M s in
+      let outside : inPage (g .line) (g .height) (g .width) M m s ≡ false =
+      not-in-page (g .line) (g .height) (g .width) M m s
+      (λ e. let on = in-page-on g sized M m rows columns s e in out (on .0) (on .1)) in
+      out-of-page (g .line) (g .height) (g .width) M m s outside (λ (o : Option ℕ). valueAt page R o ≡ none) refl
+      (λ m′ side. ⊎-elim (λ h. off .below R m′ h) (λ h. off .beside R m′ h) side)
 
   -- the entry and the end of the line, by the pixel's number and the number of pixels
   step-is : entry g (nameOf g M m) + number g M (normal g m) ≡ stepOf (g .line) M

@@ -6,6 +6,7 @@ use Prim.Native.Nat.{ℕ, zero, suc, _+_, _-_, _≤_, _<_}
 use native.Mathlib.Nat.{add-zero, suc-add, add-suc, zero-add}
 use native.Mathlib.Omega.{arith}
 use Rattle.geometry.specs.Drift.{falls, mirrored}
+use Rattle.geometry.specs.Laws.{mirrored-falling, mirrored-none}
 use Rattle.runs.specs.Grid.{Sized, rightwardAt, leftwardAt, resultingAt}
 use Rattle.runs.specs.Scratch.{total}
 use Rattle.sweep.specs.Sweeps.{costAt, rowCost, sweepCost}
@@ -58,10 +59,12 @@ total-back c d k k′ (suc n) h =
     less n i = omega arith
 
 -- over a side in normal form
-pub total-mirrored : (falling : Bool) (c : ℕ → ℕ) (W : ℕ) → total (λ (m : ℕ). c (mirrored falling W m)) 0 W ≡ total c 0 W
-unfolding mirrored
-total-mirrored true c W = total-back c (λ (m : ℕ). c (W - 1 - m)) 0 0 W (λ i h. ap c (ap (λ (q : ℕ). W - 1 - q) (zero-add i) ∙ sym (zero-add (W - 1 - i))))
-total-mirrored false c W = refl
+pub total-mirrored : (falling : Bool) (c : ℕ → ℕ) (W : ℕ)
+    → total (λ (m : ℕ). c (mirrored falling W m)) 0 W ≡ total c 0 W
+total-mirrored true c W =
+    total-back c (λ (m : ℕ). c (mirrored true W m)) 0 0 W
+    (λ i h. ap c (ap (mirrored true W) (zero-add i) ∙ mirrored-falling W i ∙ sym (zero-add (W - 1 - i))))
+total-mirrored false c W = ap (λ (f : ℕ → ℕ). total (λ (m : ℕ). c (f m)) 0 W) (mirrored-none W)
 
 -- ---- a pass
 

@@ -1,7 +1,7 @@
 -- A pixel's line as the filter names it (geometry: the steps of the line through (M, m)) and as the sweeps name it (sweep: start row u,
 -- name z): the same steps are in the page, and a pixel has the same number on its line.
 -- Assumes nothing.
-use mathlib.Core.Path.{_≡_, refl, sym, ap₂, _∙_}
+use mathlib.Core.Path.{_≡_, sym, ap₂, _∙_}
 use mathlib.Core.Bool.{true, _&&_}
 use Prim.Native.Nat.{ℕ, suc, _+_, _-_, _≤_, _<_}
 use native.Mathlib.Omega.{arith}
@@ -9,7 +9,7 @@ use borrow.Author.Tests.{leb-true, le-leb}
 use Rattle.geometry.specs.Line.{stepOf, majorAt}
 use Rattle.geometry.specs.Number.{inPage, behind, ahead}
 use Rattle.geometry.specs.Drift.{Inside, falls, mirrored}
-use Rattle.geometry.specs.Laws.{mirrored-below, inside, inside-in-page, consecutive, behind-low}
+use Rattle.geometry.specs.Laws.{major-is, mirrored-below, inside, inside-in-page, consecutive, behind-low}
 use Rattle.filter.proofs.Both.{and-true}
 use Rattle.runs.specs.Grid.{Sized, startRow, lineName, entry, leave, steps, rowAt, number, lineSteps}
 use Rattle.runs.specs.GridLaws as grid
@@ -56,16 +56,16 @@ module _ (g : Grid) (sized : Sized g) (M m : ℕ) (rows : M < g .height) (column
 
   -- the row of a step
   pub row-of-step : (s : ℕ) → majorAt (g .line) M s ≡ rowAt g (startRow g M) s
-  unfolding majorAt rowAt startRow
-  row-of-step s = refl
+  unfolding rowAt startRow
+  row-of-step s = major-is (g .line) M s
 
   on-of-inside : (s : ℕ) → Inside (g .line) (g .height) (g .width) M (normal g m) s → OnPage g (startRow g M) (nameOf g M m) s
-  unfolding lineName majorAt startRow
-  on-of-inside s i = record { row = i .long; left = left-on _ _ _ _ place-below (i .low); right = right-on _ _ _ _ place-below (i .high) }
+  unfolding lineName startRow
+  on-of-inside s i = record { row = omega (arith, major-is (g .line) M s, i .long); left = left-on _ _ _ _ place-below (i .low); right = right-on _ _ _ _ place-below (i .high) }
 
   inside-of-on : (s : ℕ) → OnPage g (startRow g M) (nameOf g M m) s → Inside (g .line) (g .height) (g .width) M (normal g m) s
-  unfolding lineName majorAt startRow
-  inside-of-on s o = record { long = o .row; low = left-back _ _ _ _ place-below (o .left); high = right-back _ _ _ _ place-below (o .right) }
+  unfolding lineName startRow
+  inside-of-on s o = record { long = omega (arith, major-is (g .line) M s, o .row); low = left-back _ _ _ _ place-below (o .left); high = right-back _ _ _ _ place-below (o .right) }
 
   -- the steps in the page are those from the entry up to where the line leaves
   pub in-page-on : (s : ℕ) → inPage (g .line) (g .height) (g .width) M m s ≡ true
