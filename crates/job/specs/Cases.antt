@@ -3,14 +3,16 @@
 -- for it, and what its job does: the answer, the output tray and the scratch after it.
 -- Each case but one stands at three placements: its trays just the page, and twice in longer trays, at another offset
 -- and with wider strides for source and output, between black and between white bytes. The output tray and the scratch
--- are old; at a finished job the output tray is its old bytes with the page among them, and the scratch it needs is zero.
+-- are old; at a finished job the output tray is its old bytes with the page among them, and the scratch it needs is
+-- zero.
 -- Assumes nothing.
-use mathlib.Core.Path.{_≡_, refl}
+use mathlib.Core.Path.{_≡_, refl, sym, ap, _∙_}
 use Prim.Native.Nat.{ℕ, zero, suc, _+_, _-_, _*_, _/_, _%_}
 use mathlib.Core.Bool.{Bool, cond, _||_}
 use mathlib.Core.List.{List, [], _∷_, _++_, map}
 use lib.ListN.{take, drop, replicate}
 use lib.Dec.{eqb, leb}
+use lib.IntN.{ℤ, pos, negsuc}
 use Rattle.geometry.specs.Vector.{shallow, steep, majorOf, minorOf}
 use Rattle.geometry.specs.Line.{floorDiv, D, shift, period, profile, place, landing, stepOf, majorAt}
 use Rattle.geometry.specs.Number.{within, inPage, count, behind, ahead}
@@ -20,6 +22,7 @@ use Rattle.runs.specs.Scratch.{total}
 use Rattle.refusal.specs.Answer.{numberOf, placeOf, workIn, isDone, whenDone}
 use Rattle.refusal.specs.Chain.{unless, _then_}
 use Rattle.refusal.specs.declared.Answer.{Answer}
+use Rattle.refusal.specs.declared.Answer.the-variants.{Done}
 use Rattle.ticket.specs.Fields.{byteAt, numberAt, signed16, signedAt, operationIn, lineIn, dxIn, dyIn}
 use Rattle.ticket.specs.Fields.{lengthIn, originIn, phaseIn, fieldEnd, boxAt, boxesFrom, boxesIn}
 use Rattle.ticket.specs.Judging.{judgeHead, judgeSize, judgeField, operationKnown, lineKnown, isPeriodic, divided}
@@ -28,6 +31,7 @@ use Rattle.ticket.specs.Judging.{judgeOperation, judgeLine, judgeVector, judgeL
 use Rattle.ticket.specs.Judging.{judged}
 use Rattle.ticket.specs.Judging as ticket-judging
 use Rattle.ticket.specs.Reading.{boxPlaces, shown}
+use Rattle.ticket.specs.declared.Ticket.{Ticket}
 use Rattle.boxes.specs.Boxes.{covers, hidden, boxesOf, boxAllowed}
 use Rattle.tray.specs.Placement.{rowStart, byteOf, pixelIn, sideAllowed, allowed, fits, sourcePage, outputPage}
 use Rattle.tray.specs.Placement.{scratchNeeded}
@@ -333,8 +337,95 @@ by-table c =
       jobs = map (λ (s : Setting). said c s) (c .jobsAt);
     }
 
-worked-cases : map by-definition table ≡ map by-table table
-unfolding shallow steep majorOf minorOf
+-- ---- how it is computed: a ticket is read once, and not again at every step of a window
+
+-- a number is computed before it is handed on
+unfoldable first : ℕ → (ℕ → Verdict) → Verdict
+first zero f = f zero
+first (suc n) f = f (suc n)
+
+first-is : (n : ℕ) (f : ℕ → Verdict) → first n f ≡ f n
+unfolding first
+first-is zero f = refl
+first-is (suc n) f = refl
+
+unfoldable firstℤ : ℤ → (ℤ → Verdict) → Verdict
+firstℤ (pos n) f = first n (λ (m : ℕ). f (pos m))
+firstℤ (negsuc n) f = first n (λ (m : ℕ). f (negsuc m))
+
+firstℤ-is : (z : ℤ) (f : ℤ → Verdict) → firstℤ z f ≡ f z
+unfolding firstℤ
+firstℤ-is (pos n) f = first-is n (λ (m : ℕ). f (pos m))
+firstℤ-is (negsuc n) f = first-is n (λ (m : ℕ). f (negsuc m))
+
+unfoldable readFirst : Ticket → (Ticket → Verdict) → Verdict
+readFirst t f =
+    first (t .operation) (λ (operation : ℕ).
+    first (t .line) (λ (line : ℕ).
+    firstℤ (t .dx) (λ (dx : ℤ).
+    firstℤ (t .dy) (λ (dy : ℤ).
+    first (t .length) (λ (length : ℕ).
+    first (t .origin) (λ (origin : ℕ).
+    first (t .phase) (λ (phase : ℕ).
+    first (t .count) (λ (count : ℕ).
+    f (record {
+      operation = operation;
+      line = line;
+      dx = dx;
+      dy = dy;
+      length = length;
+      origin = origin;
+      phase = phase;
+      count = count;
+      boxes = t .boxes;
+    })))))))))
+
+read-first : (t : Ticket) (f : Ticket → Verdict) → readFirst t f ≡ f t
+unfolding readFirst
+read-first t f = simp (first-is, firstℤ-is)
+
+-- what is said of a case, with its ticket read
+abbrev verdict : Case → Ticket → Verdict
+verdict c t =
+    record {
+      read = isDone (judged (c .bytes));
+      pages = map (λ (s : Setting). page s) (c .pagesAt);
+      jobs = map (λ (s : Setting). job s) (c .jobsAt);
+    }
+  where
+    page : Setting → Page
+    page s =
+        record {
+          work = jobWork t (c .width) (c .height);
+          pixels = down (finished t (sourcePage (placements c s)) (sourceTray c s)) (c .width) 0 (c .height);
+        }
+
+    job : Setting → Outcome
+    job s =
+        let p : Placements = placements c s in
+        let source : List ℕ = sourceTray c s in
+        let old : List ℕ = before c s in
+        let dirty : List ℕ = scratchOf c 99 in
+        let work : Answer = Done (jobWork t (c .width) (c .height)) in
+        let given : Answer = judged (c .bytes) then judgePlaces t p (lengths source old dirty) then work in
+        record {
+          number = numberOf given;
+          at = placeOf given;
+          work = workIn given;
+          output = whenDone given (written (outputPage p) (finished t (sourcePage p) source) old) old;
+          scratch = whenDone given (cleared (jobScratch t p) dirty) dirty;
+        }
+
+abbrev readOnce : Case → Verdict
+readOnce c = readFirst (shown (c .bytes)) (verdict c)
+
+read-once : by-definition ≡ readOnce
+unfolding answer outputAfter scratchAfter
+read-once = λ i c. sym (read-first (shown (c .bytes)) (verdict c)) i
+
+computed : map readOnce table ≡ map by-table table
+unfolding first firstℤ readFirst
+    shallow steep majorOf minorOf
     floorDiv D shift period profile place landing stepOf majorAt
     within inPage count behind ahead
     chosen rightward leftward resulting total
@@ -355,4 +446,9 @@ unfolding shallow steep majorOf minorOf
     lineOf segmentOf recipeOf pagesOf
     judgeSides judgeSource judgeOutput judgeScratch judgeBoxesFrom judgeBoxes judgePlaces
     finished jobWork jobScratch answer outputAfter scratchAfter
-worked-cases = refl
+computed = refl
+
+-- ---- the statement
+
+worked-cases : map by-definition table ≡ map by-table table
+worked-cases = ap (λ (f : Case → Verdict). map f table) read-once ∙ computed
