@@ -27,7 +27,8 @@ module _ (page : View) (bytes : Bytes page) where
   pub window-small : (l : Line) (a M m k : ℕ) → Small (inWindow l page a M m k)
   unfolding inWindow onLine
   window-small l a M m k =
-      cond-small (leb a (stepOf l M + k)) _ (value-small (majorAt l M (stepOf l M + k - a)) (landing l m (stepOf l M) (stepOf l M + k - a)))
+      cond-small (leb a (stepOf l M + k)) _
+      (value-small (majorAt l M (stepOf l M + k - a)) (landing l m (stepOf l M) (stepOf l M + k - a)))
 
   pass-small : (low : Bool) (l : Line) (a n M m : ℕ) (o : Option ℕ) → Small (passAt low l a n page M m o)
   unfolding passAt
@@ -40,7 +41,8 @@ module _ (page : View) (bytes : Bytes page) where
 
 -- ---- what is absent
 
-pub pass-off : (low : Bool) (l : Line) (a n : ℕ) (H W : ℕ) (page : View) → Absent H W page → Absent H W (pass low l a n page)
+pub pass-off : (low : Bool) (l : Line) (a n : ℕ) (H W : ℕ) (page : View) → Absent H W page
+    → Absent H W (pass low l a n page)
 pass-off low l a n H W page off =
     record {
       below = λ M m h. pass-absent low l a n page M m (off .below M m h);

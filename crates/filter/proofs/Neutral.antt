@@ -1,5 +1,6 @@
--- A page with absent pixels as a page of plain numbers: an absent pixel holds the neutral value, 255 where the lowest is sought and 0 where the
--- highest is, which no byte loses against. What is found among a window's values is then found among the plain numbers.
+-- A page with absent pixels as a page of plain numbers: an absent pixel holds the neutral value, 255 where the lowest
+-- is sought and 0 where the highest is, which no byte loses against. What is found among a window's values is then
+-- found among the plain numbers.
 -- Assumes nothing.
 use mathlib.Core.Path.{_≡_, refl, sym, ap, _∙_}
 use mathlib.Core.Bool.{Bool, true, false}
@@ -64,9 +65,11 @@ pub joined-small : (low : Bool) (x y : Option ℕ) → Small x → Small y → S
 unfolding joined
 joined-small low none y h k = k
 joined-small low (some x) none h k = h
-joined-small low (some x) (some y) h k = small-some (chosen low x y) (chosen-small low x y (small-in x h) (small-in y k))
+joined-small low (some x) (some y) h k =
+    small-some (chosen low x y) (chosen-small low x y (small-in x h) (small-in y k))
 
-pub joined-chosen : (low : Bool) (x y : Option ℕ) → Small x → Small y → orNeutral low (joined low x y) ≡ chosen low (orNeutral low x) (orNeutral low y)
+pub joined-chosen : (low : Bool) (x y : Option ℕ) → Small x → Small y
+    → orNeutral low (joined low x y) ≡ chosen low (orNeutral low x) (orNeutral low y)
 unfolding joined orNeutral
 joined-chosen low none none h k = sym (neutral-first low (neutral low) (neutral-small low))
 joined-chosen low none (some y) h k = sym (neutral-first low y (small-in y k))
@@ -80,9 +83,12 @@ module _ (low : Bool) (value : ℕ → Option ℕ) (bytes : (k : ℕ) → Small 
   extreme-small k (suc n) = joined-small low (value k) (extreme low value (suc k) n) (bytes k) (extreme-small (suc k) n)
 
   -- the extreme of n + 1 values is the best of the plain numbers
-  pub extreme-best : (k n : ℕ) → orNeutral low (extreme low value k (suc n)) ≡ best low (λ (q : ℕ). orNeutral low (value q)) k n
+  pub extreme-best : (k n : ℕ)
+      → orNeutral low (extreme low value k (suc n)) ≡ best low (λ (q : ℕ). orNeutral low (value q)) k n
   unfolding extreme best orNeutral
-  extreme-best k zero = joined-chosen low (value k) none (bytes k) small-none ∙ neutral-last low (orNeutral low (value k)) (orNeutral-small low (value k) (bytes k))
+  extreme-best k zero =
+      joined-chosen low (value k) none (bytes k) small-none
+      ∙ neutral-last low (orNeutral low (value k)) (orNeutral-small low (value k) (bytes k))
   extreme-best k (suc n) =
       joined-chosen low (value k) (extreme low value (suc k) (suc n)) (bytes k) (extreme-small (suc k) (suc n))
       ∙ ap (chosen low (orNeutral low (value k))) (extreme-best (suc k) n)

@@ -142,8 +142,8 @@ pub record InWindow (a n y x : ℕ) : Type 0 where
   pub from : y ≤ x + a
   pub to : x + a < y + n
 
--- a step x is in the window of y that has o of its L steps before y, exactly if y is in the window of x that has as many
--- steps behind x
+-- a step x is in the window of y that has o of its L steps before y, exactly if y is in the window of x that has as
+-- many steps behind x
 pub window-turned : (L o y x : ℕ) → o < L → InWindow o L y x → InWindow (L - 1 - o) L x y
 window-turned L o y x below h = record { from = omega (arith, h .from, h .to); to = omega (arith, h .from, h .to) }
 
