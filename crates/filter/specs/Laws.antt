@@ -11,7 +11,7 @@ use native.Mathlib.Decide.{decLt, decLe}
 use native.Mathlib.Omega.{arith}
 use borrow.Author.Tests.{le-leb, lt-leb}
 use lib.Dec.{leb}
-use Rattle.geometry.specs.Line.{landing, stepOf, majorAt}
+use Rattle.geometry.specs.Line.{stepOf, majorAt}
 use Rattle.geometry.specs.Drift.{Sound}
 use Rattle.geometry.specs.Laws.{own-landing, major-at-step}
 use Rattle.geometry.specs.declared.Line.{Line}
@@ -245,3 +245,31 @@ pass-some l sound low a n short page M m v e =
     let value : ℕ → Option ℕ = inWindow l page a M m in
     let found = extreme-there low value 0 n a v (omega arith) (omega arith) (own-value l sound page a M m ∙ e) in
     (found .0, pass-there low l a n page M m v e ∙ found .1)
+
+-- ---- what a pass finds
+
+found-at : (low : Bool) (l : Line) (a n : ℕ) (page : View) (M m : ℕ) (o : Option ℕ) (w : ℕ)
+    → passAt low l a n page M m o ≡ some w → extreme low (inWindow l page a M m) 0 n ≡ some w
+unfolding passAt
+found-at low l a n page M m none w e = absurd (Option·none-ne-some w e)
+found-at low l a n page M m (some v) w e = e
+
+pass-extreme : (low : Bool) (l : Line) (a n : ℕ) (page : View) (M m w : ℕ)
+    → pass low l a n page M m ≡ some w → extreme low (inWindow l page a M m) 0 n ≡ some w
+unfolding pass
+pass-extreme low l a n page M m w e = found-at low l a n page M m (page M m) w e
+
+-- it is a bound: no step of the pixel's window has a value beyond it
+pub pass-bound : (low : Bool) (l : Line) (a n : ℕ) (page : View) (M m s v w : ℕ) → pass low l a n page M m ≡ some w
+    → InWindow a n (stepOf l M) s → onLine l page M m s ≡ some v → chosen low w v ≡ w
+pass-bound low l a n page M m s v w e within there =
+    let read = window-reads l page a n M m s within in
+    extreme-bound low (inWindow l page a M m) 0 n (read .at) v w (pass-extreme low l a n page M m w e)
+    (omega arith) (omega (arith, read .below)) (read .reads ∙ there)
+
+-- it is attained: a step of the pixel's window has it
+pub pass-found : (low : Bool) (l : Line) (a n : ℕ) (page : View) (M m w : ℕ) → pass low l a n page M m ≡ some w
+    → Found l page a n M m w
+pass-found low l a n page M m w e =
+    let one = extreme-attained low (inWindow l page a M m) 0 n w (pass-extreme low l a n page M m w e) in
+    reads-window l page a n M m (one .at) w (omega (arith, one .to)) (one .there)
