@@ -1,7 +1,7 @@
 -- From its buffer into the scratch and out again: what stands in the scratch is the filtered page. Assumes nothing.
 use mathlib.Core.Path.{_≡_, refl, sym, ap, _∙_, subst}
 use mathlib.Core.Bool.{Bool, true, false, not, _&&_, cond, and-false}
-use mathlib.Core.Option.{Option, none, some, Option·some-injective, Option·none-ne-some}
+use mathlib.Core.Option.{none, some, Option·some-injective, Option·none-ne-some}
 use mathlib.Core.List.{List}
 use Prim.Native.Nat.{ℕ, _+_, _*_, _≤_, _<_}
 use native.Mathlib.Omega.{arith}
@@ -10,7 +10,7 @@ use lib.ListN.{length, getD}
 use borrow.Author.Tests.{lt-ltb, le-ltb}
 use Rattle.boxes.specs.Boxes.{hidden}
 use Rattle.hiding.specs.Hiding.{BoxesLie, BoxesPainted}
-use Rattle.geometry.specs.Drift.{drift, reach}
+use Rattle.geometry.specs.Drift.{reach}
 use Rattle.geometry.specs.Tables.{ProfileTable, ReachTable}
 use Rattle.geometry.specs.declared.Line.{Line}
 use Rattle.runs.specs.Grid.{Tabled}

@@ -7,11 +7,7 @@ use mathlib.Core.Bool.{Bool, true, false}
 use mathlib.Core.Option.{Option, none, some, Option·some-injective, Option·none-ne-some}
 use Prim.Native.Nat.{ℕ, zero, suc, _≤_}
 use native.Mathlib.Omega.{arith}
-use Rattle.geometry.specs.Drift.{falls, mirrored}
 use Rattle.runs.specs.Span.{chosen, best}
-use Rattle.runs.specs.Grid.{Page}
-use Rattle.runs.specs.declared.Grid.{Grid}
-use Rattle.filter.specs.Seen.{View}
 use Rattle.filter.specs.Filters.{joined, extreme}
 use Rattle.filter.specs.Engine.{neutral, orNeutral}
 

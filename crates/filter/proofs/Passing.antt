@@ -1,10 +1,10 @@
 -- One pass over the scratch filters the page that it holds. Assumes nothing.
 use mathlib.Core.Path.{_≡_, refl, sym, ap, ap₂, _∙_, subst, subst₂}
 use mathlib.Core.Bool.{Bool, true, false, not, cond}
-use mathlib.Core.Option.{Option, none, some}
+use mathlib.Core.Option.{none, some}
 use mathlib.Core.List.{List}
 use Prim.Native.Nat.{ℕ, _+_, _*_, _≤_, _<_, zero-le}
-use native.Mathlib.Nat.{zero-add, add-comm, mul-le-mul-left, mul-le-mul-right}
+use native.Mathlib.Nat.{zero-add, mul-le-mul-left, mul-le-mul-right}
 use native.Mathlib.Omega.{arith}
 use lib.Dec.{eqb}
 use borrow.Author.Tests.{eq-eqb, ne-eqb, eqb-false}
@@ -23,7 +23,7 @@ use Rattle.hiding.specs.Hiding.{BoxesLie, BoxesPainted}
 use Rattle.filter.specs.Seen.{View, turned}
 use Rattle.filter.specs.Filters.{pass, eroded, dilationBack, dilated, opened, closed, operated, recipeBoxes}
 use Rattle.filter.specs.Work.{passWork, erosionWork, dilationWork, workOf}
-use Rattle.filter.specs.Engine.{neutral, orNeutral, Absent, Bytes, Shows, steepOf, fallsOf, layoutOf, backOf}
+use Rattle.filter.specs.Engine.{neutral, orNeutral, Absent, Shows, steepOf, fallsOf, layoutOf, backOf}
 use Rattle.filter.specs.Engine.{passed, passCost, gridOf, placeOf, Held, Fair, Runs, PassDone}
 use Rattle.filter.proofs.Bridge.{bridge}
 use Rattle.filter.proofs.Charges.{work}

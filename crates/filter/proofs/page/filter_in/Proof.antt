@@ -51,10 +51,12 @@ hide-all-requires c κs =
 returns : tie.Need-returns
 returns c =
     let start =
-    c .before .before .before .before .before .before .before .before .before .before .before .before .before .before .before .before in
+    c .before .before .before .before .before .before .before .before .before .before .before .before
+    .before .before .before .before in
     ready-as (start .args .how) (start .args .from) (start .args .lay) (start .pre .1 .0) (start .args .source .now)
     (λ k.
-    c .before .before .before .before .before .before .before .before .before .before .before .before .before .before .before .shared-slice-known .given k .fits) _ _ _ _ _
+    c .before .before .before .before .before .before .before .before .before .before .before .before
+    .before .before .before .shared-slice-known .given k .fits) _ _ _ _ _
     (c .before .before .before .before .before .before .before .before .before .before .page-in .ensures)
     (c .before .before .before .before .before .before .filter-held .ensures)
     (c .before .before .hide-all .ensures)

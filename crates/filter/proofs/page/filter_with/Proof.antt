@@ -19,7 +19,8 @@ fill-tables-requires c κs =
 filter-in-requires : tie.Need-filter-in-requires
 filter-in-requires c κs =
     let start =
-    c .before .before .before .before .before .before .before .before .before .before .before .before .before .before .before .before .before .before in
+    c .before .before .before .before .before .before .before .before .before .before .before .before
+    .before .before .before .before .before .before in
     let a = start .args in
     let pre = start .pre in (
       pre .0 .enters,
@@ -33,7 +34,8 @@ filter-in-requires c κs =
 page-out-requires : tie.Need-page-out-requires
 page-out-requires c κs =
     let start =
-    c .before .before .before .before .before .before .before .before .before .before .before .before .before .before .before .before .before .before .before .before .before .before .before in
+    c .before .before .before .before .before .before .before .before .before .before .before .before
+    .before .before .before .before .before .before .before .before .before .before .before in
     let a = start .args in
     let pre = start .pre in (
       pre .0 .to-tray,
@@ -51,7 +53,8 @@ page-out-requires c κs =
 returns : tie.Need-returns
 returns c =
     let start =
-    c .before .before .before .before .before .before .before .before .before .before .before .before .before .before .before .before .before .before .before .before .before .before .before .before .before .before in
+    c .before .before .before .before .before .before .before .before .before .before .before .before
+    .before .before .before .before .before .before .before .before .before .before .before .before .before .before in
     let a = start .args in
     let pre = start .pre in
     given-out (a .how) (a .way .from) (a .way .to) _ _ _ (pre .0) (a .way .lay) (pre .1 .0) _ _ _ _ _ _

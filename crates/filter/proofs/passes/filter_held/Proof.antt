@@ -33,7 +33,8 @@ one-pass-requires-4 c κs =
 add-result : tie.Need-add-result
 add-result c =
     let lie =
-    c .before .before .before .before .before .before .before .before .before .before .before .before .before .pre .0 .boxes in
+    c .before .before .before .before .before .before .before .before .before .before .before .before
+    .before .pre .0 .boxes in
     record {
       fits =
           omega (
