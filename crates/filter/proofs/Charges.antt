@@ -6,6 +6,7 @@ use Prim.Native.Nat.{ℕ, zero, suc, _+_, _-_, _≤_, _<_}
 use native.Mathlib.Nat.{add-zero, suc-add, add-suc, zero-add}
 use native.Mathlib.Omega.{arith}
 use Rattle.geometry.specs.Drift.{falls, mirrored}
+use Rattle.geometry.specs.Laws.{mirrored-falling, mirrored-none}
 use Rattle.runs.specs.Grid.{Sized, rightwardAt, leftwardAt, resultingAt}
 use Rattle.runs.specs.Scratch.{total}
 use Rattle.sweep.specs.Sweeps.{costAt, rowCost, sweepCost}
@@ -27,7 +28,8 @@ pub total-plus : (c d : ℕ → ℕ) (k n : ℕ) → total (λ (q : ℕ). c q + 
 unfolding total
 total-plus c d k zero = refl
 total-plus c d k (suc n) =
-    let rest : total (λ (q : ℕ). c q + d q) (suc k) n ≡ total c (suc k) n + total d (suc k) n = total-plus c d (suc k) n in
+    let rest : total (λ (q : ℕ). c q + d q) (suc k) n ≡ total c (suc k) n + total d (suc k) n =
+    total-plus c d (suc k) n in
     omega arith
 
 -- the last number taken off
@@ -40,13 +42,15 @@ total-last c k (suc n) =
     omega arith
 
 -- a sum read backwards: its numbers from k on are those from k′ + n down
-total-back : (c : ℕ → ℕ) (d : ℕ → ℕ) (k k′ n : ℕ) → ((i : ℕ) → i < n → d (k + i) ≡ c (k′ + (n - 1 - i))) → total d k n ≡ total c k′ n
+total-back : (c : ℕ → ℕ) (d : ℕ → ℕ) (k k′ n : ℕ) → ((i : ℕ) → i < n → d (k + i) ≡ c (k′ + (n - 1 - i)))
+    → total d k n ≡ total c k′ n
 total-back c d k k′ zero h = unfold total in refl
 total-back c d k k′ (suc n) h =
     let first : d k ≡ c (k′ + n) =
     ap d (sym (add-zero k)) ∙ h 0 (omega arith) ∙ ap (λ (q : ℕ). c (k′ + q)) (whole n) in
     let rest : total d (suc k) n ≡ total c k′ n =
-    total-back c d (suc k) k′ n (λ i b. ap d (suc-add k i ∙ sym (add-suc k i)) ∙ h (suc i) (omega arith) ∙ ap (λ (q : ℕ). c (k′ + q)) (less n i)) in
+    total-back c d (suc k) k′ n
+    (λ i b. ap d (suc-add k i ∙ sym (add-suc k i)) ∙ h (suc i) (omega arith) ∙ ap (λ (q : ℕ). c (k′ + q)) (less n i)) in
     let one : total d k (suc n) ≡ d k + total d (suc k) n = unfold total in refl in
     let last : total c k′ (suc n) ≡ total c k′ n + c (k′ + n) = total-last c k′ n in
     omega arith
@@ -58,10 +62,12 @@ total-back c d k k′ (suc n) h =
     less n i = omega arith
 
 -- over a side in normal form
-pub total-mirrored : (falling : Bool) (c : ℕ → ℕ) (W : ℕ) → total (λ (m : ℕ). c (mirrored falling W m)) 0 W ≡ total c 0 W
-unfolding mirrored
-total-mirrored true c W = total-back c (λ (m : ℕ). c (W - 1 - m)) 0 0 W (λ i h. ap c (ap (λ (q : ℕ). W - 1 - q) (zero-add i) ∙ sym (zero-add (W - 1 - i))))
-total-mirrored false c W = refl
+pub total-mirrored : (falling : Bool) (c : ℕ → ℕ) (W : ℕ)
+    → total (λ (m : ℕ). c (mirrored falling W m)) 0 W ≡ total c 0 W
+total-mirrored true c W =
+    total-back c (λ (m : ℕ). c (mirrored true W m)) 0 0 W
+    (λ i h. ap c (ap (mirrored true W) (zero-add i) ∙ mirrored-falling W i ∙ sym (zero-add (W - 1 - i))))
+total-mirrored false c W = ap (λ (f : ℕ → ℕ). total (λ (m : ℕ). c (f m)) 0 W) (mirrored-none W)
 
 -- ---- a pass
 
@@ -77,14 +83,21 @@ module _ (g : Grid) (sized : Sized g) where
       + costAt Result g M (mirrored (falls (g .line)) (g .width) m)
   unfolding chargedAt charged costAt leftwardAt rightwardAt resultingAt
   charged-at M m rows columns =
-      rw (number-behind g sized M m rows columns, steps-counted g sized M m rows columns, on-is (g .length) (g .back) (g .on) (sized .length-is)) refl
+      rw (
+        number-behind g sized M m rows columns,
+        steps-counted g sized M m rows columns,
+        on-is (g .length) (g .back)
+            (g .on) (sized .length-is),
+      ) refl
 
   -- a row
   charged-row : (M : ℕ) → M < g .height
       → total (λ (m : ℕ). chargedAt (g .line) (g .height) (g .width) (g .length) (g .back) M m) 0 (g .width)
       ≡ rowCost Backward g M + rowCost Forward g M + rowCost Result g M
   charged-row M rows =
-      total-same (λ (m : ℕ). chargedAt (g .line) (g .height) (g .width) (g .length) (g .back) M m) (λ (m : ℕ). all (mirrored (falls (g .line)) (g .width) m)) 0 (g .width) (λ m a b. charged-at M m rows (omega arith))
+      total-same (λ (m : ℕ). chargedAt (g .line) (g .height) (g .width) (g .length) (g .back) M m)
+      (λ (m : ℕ). all (mirrored (falls (g .line)) (g .width) m)) 0 (g .width)
+      (λ m a b. charged-at M m rows (omega arith))
       ∙ total-mirrored (falls (g .line)) all (g .width)
       ∙ total-plus (λ (x : ℕ). costAt Backward g M x + costAt Forward g M x) (costAt Result g M) 0 (g .width)
       ∙ ap (λ (q : ℕ). q + rowCost Result g M) (total-plus (costAt Backward g M) (costAt Forward g M) 0 (g .width))
@@ -92,10 +105,13 @@ module _ (g : Grid) (sized : Sized g) where
       all : ℕ → ℕ
       all x = costAt Backward g M x + costAt Forward g M x + costAt Result g M x
 
-  pub work : passWork (g .line) (g .height) (g .width) (g .length) (g .back) ≡ sweepCost Backward g + sweepCost Forward g + sweepCost Result g
+  pub work : passWork (g .line) (g .height) (g .width) (g .length) (g .back)
+      ≡ sweepCost Backward g + sweepCost Forward g + sweepCost Result g
   unfolding passWork
   work =
-      total-same (λ (M : ℕ). total (λ (m : ℕ). chargedAt (g .line) (g .height) (g .width) (g .length) (g .back) M m) 0 (g .width))
-      (λ (M : ℕ). rowCost Backward g M + rowCost Forward g M + rowCost Result g M) 0 (g .height) (λ M a b. charged-row M (omega arith))
+      total-same
+      (λ (M : ℕ). total (λ (m : ℕ). chargedAt (g .line) (g .height) (g .width) (g .length) (g .back) M m) 0 (g .width))
+      (λ (M : ℕ). rowCost Backward g M + rowCost Forward g M + rowCost Result g M) 0 (g .height)
+      (λ M a b. charged-row M (omega arith))
       ∙ total-plus (λ (M : ℕ). rowCost Backward g M + rowCost Forward g M) (rowCost Result g) 0 (g .height)
       ∙ ap (λ (q : ℕ). q + sweepCost Result g) (total-plus (rowCost Backward g) (rowCost Forward g) 0 (g .height))

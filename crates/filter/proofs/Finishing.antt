@@ -1,7 +1,7 @@
 -- From its buffer into the scratch and out again: what stands in the scratch is the filtered page. Assumes nothing.
 use mathlib.Core.Path.{_≡_, refl, sym, ap, _∙_, subst}
 use mathlib.Core.Bool.{Bool, true, false, not, _&&_, cond, and-false}
-use mathlib.Core.Option.{Option, none, some, Option·some-injective, Option·none-ne-some}
+use mathlib.Core.Option.{none, some, Option·some-injective, Option·none-ne-some}
 use mathlib.Core.List.{List}
 use Prim.Native.Nat.{ℕ, _+_, _*_, _≤_, _<_}
 use native.Mathlib.Omega.{arith}
@@ -10,7 +10,7 @@ use lib.ListN.{length, getD}
 use borrow.Author.Tests.{lt-ltb, le-ltb}
 use Rattle.boxes.specs.Boxes.{hidden}
 use Rattle.hiding.specs.Hiding.{BoxesLie, BoxesPainted}
-use Rattle.geometry.specs.Drift.{drift, reach}
+use Rattle.geometry.specs.Drift.{reach}
 use Rattle.geometry.specs.Tables.{ProfileTable, ReachTable}
 use Rattle.geometry.specs.declared.Line.{Line}
 use Rattle.runs.specs.Grid.{Tabled}
@@ -25,7 +25,8 @@ use Rattle.tray.specs.declared.Placement.{Placement}
 use Rattle.filter.specs.Seen.{View, seen, turned}
 use Rattle.filter.specs.Filters.{operated, filtered, orWhite, recipeBoxes, filteredPage}
 use Rattle.filter.specs.Work.{workOf}
-use Rattle.filter.specs.Engine.{Absent, Bytes, steepOf, layoutOf, gridOf, placeOf, Held, PassDone, Runs, Tables, Enters, Ready}
+use Rattle.filter.specs.Engine.{Absent, Bytes, steepOf, layoutOf, gridOf, placeOf, Held, PassDone, Runs, Tables}
+use Rattle.filter.specs.Engine.{Enters, Ready}
 use Rattle.filter.specs.Promises.{Fits, Filtered}
 use Rattle.filter.specs.declared.Recipe.{Recipe}
 
@@ -49,7 +50,8 @@ module _ (boxes : List HiddenBox) (width height : ℕ) (pixel : ℕ → ℕ → 
   unfolding seen
   seen-hidden c r e = rw (e, and-false (ltb c width && ltb r height)) refl
 
-  seen-shown : (c r : ℕ) → c < width → r < height → hidden boxes c r ≡ false → seen boxes width height pixel c r ≡ some (pixel c r)
+  seen-shown : (c r : ℕ) → c < width → r < height → hidden boxes c r ≡ false
+      → seen boxes width height pixel c r ≡ some (pixel c r)
   unfolding seen
   seen-shown c r c-in r-in e = rw (e, lt-ltb c width c-in, lt-ltb r height r-in) refl
 
@@ -65,7 +67,8 @@ module _ (boxes : List HiddenBox) (width height : ℕ) (pixel : ℕ → ℕ → 
   seen-small bytes c r v e = let same : pixel c r ≡ v = seen-value c r v e in omega (arith, bytes c r)
 
   -- by its axes, it is absent past the sides
-  absent-turned : (steep : Bool) → Absent (downOf steep width height) (acrossOf steep width height) (turned steep (seen boxes width height pixel))
+  absent-turned : (steep : Bool)
+      → Absent (downOf steep width height) (acrossOf steep width height) (turned steep (seen boxes width height pixel))
   unfolding turned downOf acrossOf
   absent-turned true = record { below = λ M m h. seen-low m M h; beside = λ M m h. seen-wide m M h }
   absent-turned false = record { below = λ M m h. seen-wide M m h; beside = λ M m h. seen-low M m h }
@@ -88,29 +91,38 @@ module _ (how : Recipe) (p : Placement) (source : List ℕ) (bytes : (k : ℕ) �
   abbrev page : View
   page = turned (steepOf how) shown
 
-  entered : (before after : List ℕ) → PageIn source p (layoutOf how (p .width) (p .height)) before after → Held how (p .width) (p .height) page after
+  entered : (before after : List ℕ) → PageIn source p (layoutOf how (p .width) (p .height)) before after
+      → Held how (p .width) (p .height) page after
   entered before after into =
       record {
         absent = absent-turned (recipeBoxes how) (p .width) (p .height) (pixelIn source p) (steepOf how);
         bytes = bytes-turned (recipeBoxes how) (p .width) (p .height) (pixelIn source p) pixel-small (steepOf how);
         none-there = λ r r-in c c-in e.
-            turned-twice (steepOf how) shown c r ∙ seen-hidden (recipeBoxes how) (p .width) (p .height) (pixelIn source p) c r e;
+            turned-twice (steepOf how) shown c r
+            ∙ seen-hidden (recipeBoxes how) (p .width) (p .height) (pixelIn source p) c r e;
         one-there = λ r r-in c c-in e.
             turned-twice (steepOf how) shown c r
             ∙ seen-shown (recipeBoxes how) (p .width) (p .height) (pixelIn source p) c r c-in r-in e
             ∙ ap some (sym (into .pixel r r-in c c-in));
       }
 
-  module _ (one two three four : List ℕ) (work : ℕ) (into : PageIn source p (layoutOf how (p .width) (p .height)) one two) (through : PassDone how (layoutOf how (p .width) (p .height)) (operated (how .operation) (how .segment)) (workOf (how .operation) (how .segment) (p .width) (p .height)) 6 two three work) (whited : BoxesPainted (recipeBoxes how) (layoutOf how (p .width) (p .height)) (how .white) three four) where
+  module _ (one two three four : List ℕ) (work : ℕ)
+      (into : PageIn source p (layoutOf how (p .width) (p .height)) one two)
+      (through : PassDone how (layoutOf how (p .width) (p .height)) (operated (how .operation) (how .segment))
+      (workOf (how .operation) (how .segment) (p .width) (p .height)) 6 two three work)
+      (whited : BoxesPainted (recipeBoxes how) (layoutOf how (p .width) (p .height)) (how .white) three four) where
     held : Held how (p .width) (p .height) (operated (how .operation) (how .segment) page) three
     held = through .page page (entered one two into)
 
     pixel-by :
         (hid : Bool) (c r : ℕ) → hidden (recipeBoxes how) c r ≡ hid → c < p .width → r < p .height
-        → getD four (placeOf how (p .width) (p .height) c r) 0 ≡ filteredPage how (p .width) (p .height) (pixelIn source p) c r
+        → getD four (placeOf how (p .width) (p .height) c r) 0
+        ≡ filteredPage how (p .width) (p .height) (pixelIn source p) c r
     unfolding filteredPage filtered orWhite
-    pixel-by true c r e c-in r-in = whited .hides r r-in c c-in e ∙ sym (ap (orWhite (how .white)) (held .none-there r r-in c c-in e))
-    pixel-by false c r e c-in r-in = whited .shows r r-in c c-in e ∙ sym (ap (orWhite (how .white)) (held .one-there r r-in c c-in e))
+    pixel-by true c r e c-in r-in =
+        whited .hides r r-in c c-in e ∙ sym (ap (orWhite (how .white)) (held .none-there r r-in c c-in e))
+    pixel-by false c r e c-in r-in =
+        whited .shows r r-in c c-in e ∙ sym (ap (orWhite (how .white)) (held .one-there r r-in c c-in e))
 
     pub ready : Ready how p source one four work
     ready =
@@ -124,7 +136,9 @@ module _ (how : Recipe) (p : Placement) (source : List ℕ) (bytes : (k : ℕ) �
 
 -- ---- the tables
 
-pub tables : (how : Recipe) (n : ℕ) (profile reaches : List ℕ) → length profile ≡ n → length reaches ≡ n → ProfileTable (how .segment .line) profile → ReachTable (how .segment .line) (length profile) reaches → Tables how n profile reaches
+pub tables : (how : Recipe) (n : ℕ) (profile reaches : List ℕ) → length profile ≡ n → length reaches ≡ n
+    → ProfileTable (how .segment .line) profile → ReachTable (how .segment .line) (length profile) reaches
+    → Tables how n profile reaches
 tables how n profile reaches np nr profiled reached =
     record {
       profile-size = np;
@@ -135,7 +149,8 @@ tables how n profile reaches np nr profiled reached =
 
 tabled :
     (how : Recipe) (lay : Layout) → lay ≡ layoutOf how (lay .width) (lay .height) → (profile reaches : List ℕ)
-    → Tables how (compactHeight lay) profile reaches → (low : Bool) → Tabled (gridOf how (lay .width) (lay .height) low) profile reaches
+    → Tables how (compactHeight lay) profile reaches → (low : Bool)
+    → Tabled (gridOf how (lay .width) (lay .height) low) profile reaches
 unfolding gridOf
 tabled how lay laid profile reaches given low =
     record {
@@ -148,13 +163,15 @@ tabled how lay laid profile reaches given low =
     all : Tables how (compactHeight (layoutOf how (lay .width) (lay .height))) profile reaches
     all = subst (λ (l : Layout). Tables how (compactHeight l) profile reaches) laid given
 
-pub tables-as : (how : Recipe) (n : ℕ) (line : Line) (profile reaches : List ℕ) → line ≡ how .segment .line → length profile ≡ n → length reaches ≡ n → ProfileTable line profile
+pub tables-as : (how : Recipe) (n : ℕ) (line : Line) (profile reaches : List ℕ) → line ≡ how .segment .line
+    → length profile ≡ n → length reaches ≡ n → ProfileTable line profile
     → ((l : Line) → ProfileTable l profile → ReachTable l (length profile) reaches) → Tables how n profile reaches
 tables-as how n line profile reaches is np nr profiled reached =
     let mine : ProfileTable (how .segment .line) profile = subst (λ (l : Line). ProfileTable l profile) is profiled in
     tables how n profile reaches np nr mine (reached (how .segment .line) mine)
 
-pub tables-long : (how : Recipe) (n m : ℕ) (profile reaches : List ℕ) → n ≡ m → Tables how n profile reaches → Tables how m profile reaches
+pub tables-long : (how : Recipe) (n m : ℕ) (profile reaches : List ℕ) → n ≡ m → Tables how n profile reaches
+    → Tables how m profile reaches
 tables-long how n m profile reaches e all = subst (λ (k : ℕ). Tables how k profile reaches) e all
 
 pub rows-most : (how : Recipe) (lay : Layout) → BoxesLie (recipeBoxes how) lay → compactHeight lay ≤ 8192
@@ -171,13 +188,16 @@ module _ (how : Recipe) (p : Placement) (lay : Layout) (laid : lay ≡ layoutOf 
   -- the layout by its own sides
   pub laid-so : lay ≡ layoutOf how (lay .width) (lay .height)
   laid-so =
-      subst (λ (l : Layout). l ≡ layoutOf how (l .width) (l .height)) {x = layoutOf how (p .width) (p .height)} {y = lay} (sym laid) refl
+      subst
+      (λ (l : Layout). l ≡ layoutOf how (l .width) (l .height)) {x = layoutOf how (p .width) (p .height)} {y = lay}
+      (sym laid) refl
 
   pub same-sides : SameSides lay p
   same-sides = subst (λ (l : Layout). SameSides l p) (sym laid) (record { across = refl; down = refl })
 
   pub runs-asks :
-      (source scratch : ℕ) → Enters how p source scratch → (profile reaches : List ℕ) → Tables how (compactHeight lay) profile reaches
+      (source scratch : ℕ) → Enters how p source scratch → (profile reaches : List ℕ)
+      → Tables how (compactHeight lay) profile reaches
       → (n : ℕ) → n ≡ scratch → Runs how lay profile reaches n
   runs-asks source scratch enters profile reaches all n same =
       record {
@@ -192,7 +212,8 @@ module _ (how : Recipe) (p : Placement) (lay : Layout) (laid : lay ≡ layoutOf 
       boxes-on : Enters how p source scratch → BoxesLie (recipeBoxes how) lay
       boxes-on e = subst (BoxesLie (recipeBoxes how)) (sym laid) (e .boxes)
 
-      room-in : Enters how p source scratch → (n : ℕ) → n ≡ scratch → lay .width * lay .height + lay .width * lay .height ≤ n
+      room-in : Enters how p source scratch → (n : ℕ) → n ≡ scratch
+          → lay .width * lay .height + lay .width * lay .height ≤ n
       room-in e n same =
           subst (λ (l : Layout). l .width * l .height + l .width * l .height ≤ n) (sym laid) (omega (arith, e .room))
 
@@ -203,20 +224,26 @@ module _ (how : Recipe) (p : Placement) (lay : Layout) (laid : lay ≡ layoutOf 
   room-one source scratch e = subst (λ (l : Layout). l .width * l .height ≤ scratch) (sym laid) (omega (arith, e .room))
 
   pub ready-as :
-      (source : List ℕ) → ((k : ℕ) → getD source k 0 < 256) → (one two three four : List ℕ) (work : ℕ) → PageIn source p lay one two
-      → PassDone how lay (operated (how .operation) (how .segment)) (workOf (how .operation) (how .segment) (lay .width) (lay .height)) 6 two three work
+      (source : List ℕ) → ((k : ℕ) → getD source k 0 < 256) → (one two three four : List ℕ) (work : ℕ)
+      → PageIn source p lay one two
+      → PassDone how lay (operated (how .operation) (how .segment))
+      (workOf (how .operation) (how .segment) (lay .width) (lay .height)) 6 two three work
       → BoxesPainted (recipeBoxes how) lay (how .white) three four → Ready how p source one four work
   ready-as source bytes one two three four work into through whited =
       ready how p source bytes one two three four work
       (subst (λ (l : Layout). PageIn source p l one two) laid into)
-      (subst (λ (l : Layout). PassDone how l (operated (how .operation) (how .segment)) (workOf (how .operation) (how .segment) (l .width) (l .height)) 6 two three work) laid through)
+      (subst
+      (λ (l : Layout). PassDone how l (operated (how .operation) (how .segment))
+      (workOf (how .operation) (how .segment) (l .width) (l .height)) 6 two three work) laid through)
       (subst (λ (l : Layout). BoxesPainted (recipeBoxes how) l (how .white) three four) laid whited)
 
 -- ---- out of it
 
-module _ (how : Recipe) (from to : Placement) (n m k : ℕ) (fits : Fits how from to n m k) (lay : Layout) (laid : lay ≡ layoutOf how (from .width) (from .height)) where
+module _ (how : Recipe) (from to : Placement) (n m k : ℕ) (fits : Fits how from to n m k) (lay : Layout)
+    (laid : lay ≡ layoutOf how (from .width) (from .height)) where
   pub sides-out : SameSides lay to
-  sides-out = subst (λ (l : Layout). SameSides l to) (sym laid) (record { across = fits .same-width; down = fits .same-height })
+  sides-out =
+      subst (λ (l : Layout). SameSides l to) (sym laid) (record { across = fits .same-width; down = fits .same-height })
 
   pub given-out :
       (source output scratch used after : List ℕ) (work : ℕ) → Ready how from source scratch used work
@@ -227,7 +254,8 @@ module _ (how : Recipe) (from to : Placement) (n m k : ℕ) (fits : Fits how fro
         written-is =
             out
             ∙ written-same to _ _ output
-            (λ r r-in c c-in. ap (λ (l : Layout). getD used (compactAt l c r) 0) laid ∙ ready .pixel r (omega (arith, fits .same-height)) c (omega (arith, fits .same-width)));
+            (λ r r-in c c-in. ap (λ (l : Layout). getD used (compactAt l c r) 0) laid
+            ∙ ready .pixel r (omega (arith, fits .same-height)) c (omega (arith, fits .same-width)));
         same-length = ready .same-length;
         rest = ready .rest;
         work-is = ready .work-is;

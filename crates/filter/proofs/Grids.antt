@@ -42,10 +42,12 @@ module _ (how : Recipe) (ok : Fair (how .segment)) where
   period-near = by-kind (how .segment .line .periodic) refl
     where
       by-kind : (b : Bool) → how .segment .line .periodic ≡ b → period (how .segment .line) ≤ 255
-      by-kind true e = omega (arith, Lines.period-periodic (how .segment .line) e, Lines.major-near (how .segment .line) (ok .line))
+      by-kind true e =
+          omega (arith, Lines.period-periodic (how .segment .line) e, Lines.major-near (how .segment .line) (ok .line))
       by-kind false e = omega (arith, Lines.period-connected (how .segment .line) e)
 
-  module _ (width height : ℕ) (wide : 1 ≤ width) (high : 1 ≤ height) (width-most : width ≤ 8192) (height-most : height ≤ 8192) (low : Bool) where
+  module _ (width height : ℕ) (wide : 1 ≤ width) (high : 1 ≤ height) (width-most : width ≤ 8192)
+      (height-most : height ≤ 8192) (low : Bool) where
     across-sides : (steep : Bool) → (1 ≤ acrossOf steep width height) × (acrossOf steep width height ≤ 8192)
     unfolding acrossOf
     across-sides true = (wide, width-most)
@@ -72,8 +74,34 @@ module _ (how : Recipe) (ok : Fair (how .segment)) where
 
 -- a grid whose fields are those of the ticket's
 pub grid-of : (how : Recipe) (width height : ℕ) (low : Bool) (line : Line) (w h p b : ℕ)
-    → line ≡ how .segment .line → w ≡ acrossOf (steepOf how) width height → h ≡ downOf (steepOf how) width height → p ≡ period (how .segment .line) → b ≡ backOf (how .segment) low
-    → _≡_ {A = Grid} (record { line = line; width = w; height = h; period = p; back = b; on = how .segment .length - 1 - b; length = how .segment .length; low = low }) (gridOf how width height low)
+    → line ≡ how .segment .line → w ≡ acrossOf (steepOf how) width height → h ≡ downOf (steepOf how) width height
+    → p ≡ period (how .segment .line) → b ≡ backOf (how .segment) low
+    → _≡_ {A = Grid}
+    (record {
+      line = line;
+      width = w;
+      height = h;
+      period = p;
+      back = b;
+      on = how .segment .length - 1 - b;
+      length =
+          how .segment .length;
+      low = low;
+    }) (gridOf how width height low)
 unfolding gridOf
 grid-of how width height low line w h p b el ew eh ep eb =
-    λ i. record { line = el i; width = ew i; height = eh i; period = ep i; back = eb i; on = how .segment .length - 1 - eb i; length = how .segment .length; low = low }
+    λ i.
+    record {
+      line =
+          el i;
+      width =
+          ew i;
+      height =
+          eh i;
+      period =
+          ep i;
+      back = eb i;
+      on = how .segment .length - 1 - eb i;
+      length = how .segment .length;
+      low = low;
+    }

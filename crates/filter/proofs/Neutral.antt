@@ -1,18 +1,13 @@
--- A page with absent pixels as a page of plain numbers: an absent pixel holds the neutral value, 255 where the lowest is sought and 0 where the
--- highest is, which no byte loses against. What is found among a window's values is then found among the plain numbers.
+-- A page with absent pixels as a page of plain numbers: an absent pixel holds the neutral value, 255 where the lowest
+-- is sought and 0 where the highest is, which no byte loses against. What is found among a window's values is then
+-- found among the plain numbers.
 -- Assumes nothing.
 use mathlib.Core.Path.{_≡_, refl, sym, ap, _∙_}
 use mathlib.Core.Bool.{Bool, true, false}
-use mathlib.Core.Logic.{by-cases}
 use mathlib.Core.Option.{Option, none, some, Option·some-injective, Option·none-ne-some}
-use Prim.Native.Nat.{ℕ, zero, suc, _+_, _≤_, _<_}
-use native.Mathlib.Decide.{decLt}
+use Prim.Native.Nat.{ℕ, zero, suc, _≤_}
 use native.Mathlib.Omega.{arith}
-use Rattle.geometry.specs.Drift.{falls, mirrored}
 use Rattle.runs.specs.Span.{chosen, best}
-use Rattle.runs.specs.Grid.{Page}
-use Rattle.runs.specs.declared.Grid.{Grid}
-use Rattle.filter.specs.Seen.{View}
 use Rattle.filter.specs.Filters.{joined, extreme}
 use Rattle.filter.specs.Engine.{neutral, orNeutral}
 
@@ -66,9 +61,11 @@ pub joined-small : (low : Bool) (x y : Option ℕ) → Small x → Small y → S
 unfolding joined
 joined-small low none y h k = k
 joined-small low (some x) none h k = h
-joined-small low (some x) (some y) h k = small-some (chosen low x y) (chosen-small low x y (small-in x h) (small-in y k))
+joined-small low (some x) (some y) h k =
+    small-some (chosen low x y) (chosen-small low x y (small-in x h) (small-in y k))
 
-pub joined-chosen : (low : Bool) (x y : Option ℕ) → Small x → Small y → orNeutral low (joined low x y) ≡ chosen low (orNeutral low x) (orNeutral low y)
+pub joined-chosen : (low : Bool) (x y : Option ℕ) → Small x → Small y
+    → orNeutral low (joined low x y) ≡ chosen low (orNeutral low x) (orNeutral low y)
 unfolding joined orNeutral
 joined-chosen low none none h k = sym (neutral-first low (neutral low) (neutral-small low))
 joined-chosen low none (some y) h k = sym (neutral-first low y (small-in y k))
@@ -82,41 +79,15 @@ module _ (low : Bool) (value : ℕ → Option ℕ) (bytes : (k : ℕ) → Small 
   extreme-small k (suc n) = joined-small low (value k) (extreme low value (suc k) n) (bytes k) (extreme-small (suc k) n)
 
   -- the extreme of n + 1 values is the best of the plain numbers
-  pub extreme-best : (k n : ℕ) → orNeutral low (extreme low value k (suc n)) ≡ best low (λ (q : ℕ). orNeutral low (value q)) k n
+  pub extreme-best : (k n : ℕ)
+      → orNeutral low (extreme low value k (suc n)) ≡ best low (λ (q : ℕ). orNeutral low (value q)) k n
   unfolding extreme best orNeutral
-  extreme-best k zero = joined-chosen low (value k) none (bytes k) small-none ∙ neutral-last low (orNeutral low (value k)) (orNeutral-small low (value k) (bytes k))
+  extreme-best k zero =
+      joined-chosen low (value k) none (bytes k) small-none
+      ∙ neutral-last low (orNeutral low (value k)) (orNeutral-small low (value k) (bytes k))
   extreme-best k (suc n) =
       joined-chosen low (value k) (extreme low value (suc k) (suc n)) (bytes k) (extreme-small (suc k) (suc n))
       ∙ ap (chosen low (orNeutral low (value k))) (extreme-best (suc k) n)
-
--- ---- a window with a value that is there has an extreme
-
-joined-first : (low : Bool) (v : ℕ) (y : Option ℕ) → (w : ℕ) × (joined low (some v) y ≡ some w)
-unfolding joined
-joined-first low v none = (v, refl)
-joined-first low v (some y) = (chosen low v y, refl)
-
-joined-last : (low : Bool) (x : Option ℕ) (v : ℕ) → (w : ℕ) × (joined low x (some v) ≡ some w)
-unfolding joined
-joined-last low none v = (v, refl)
-joined-last low (some x) v = (chosen low x v, refl)
-
-pub extreme-there : (low : Bool) (value : ℕ → Option ℕ) (k n q v : ℕ) → k ≤ q → q < k + n → value q ≡ some v → (w : ℕ) × (extreme low value k n ≡ some w)
-unfolding extreme
-extreme-there low value k zero q v from to e = absurd (omega arith)
-extreme-there low value k (suc n) q v from to e =
-    by-cases
-    (decLt k q)
-    (λ h.
-    let rest = extreme-there low value (suc k) n q v h (omega arith) e in
-    let all = joined-last low (value k) (rest .0) in
-    (all .0, ap (joined low (value k)) (rest .1) ∙ all .1))
-    (λ h.
-    let all = joined-first low v (extreme low value (suc k) n) in
-    (all .0, ap (λ (o : Option ℕ). joined low o (extreme low value (suc k) n)) (ap value (same h) ∙ e) ∙ all .1))
-  where
-    same : ¬ (k < q) → k ≡ q
-    same h = omega arith
 
 -- a value that is there is what stands for it
 pub there-is : (low : Bool) (o : Option ℕ) (w : ℕ) → o ≡ some w → o ≡ some (orNeutral low o)

@@ -1,7 +1,7 @@
--- A pixel's line as the filter names it (geometry: the steps of the line through (M, m)) and as the sweeps name it (sweep: start row u,
--- name z): the same steps are in the page, and a pixel has the same number on its line.
+-- A pixel's line as the filter names it (geometry: the steps of the line through (M, m)) and as the sweeps name it
+-- (sweep: start row u, name z): the same steps are in the page, and a pixel has the same number on its line.
 -- Assumes nothing.
-use mathlib.Core.Path.{_≡_, refl, sym, ap₂, _∙_}
+use mathlib.Core.Path.{_≡_, sym, ap₂, _∙_}
 use mathlib.Core.Bool.{true, _&&_}
 use Prim.Native.Nat.{ℕ, suc, _+_, _-_, _≤_, _<_}
 use native.Mathlib.Omega.{arith}
@@ -9,14 +9,15 @@ use borrow.Author.Tests.{leb-true, le-leb}
 use Rattle.geometry.specs.Line.{stepOf, majorAt}
 use Rattle.geometry.specs.Number.{inPage, behind, ahead}
 use Rattle.geometry.specs.Drift.{Inside, falls, mirrored}
-use Rattle.geometry.specs.Laws.{mirrored-below, inside, inside-in-page, consecutive, behind-low}
+use Rattle.geometry.specs.Laws.{major-is, mirrored-below, inside, inside-in-page, consecutive, behind-low}
 use Rattle.filter.proofs.Both.{and-true}
 use Rattle.runs.specs.Grid.{Sized, startRow, lineName, entry, leave, steps, rowAt, number, lineSteps}
 use Rattle.runs.specs.GridLaws as grid
 use Rattle.runs.specs.GridLaws.{OnPage, on-page, on-line}
 use Rattle.runs.specs.declared.Grid.{Grid}
 
--- in plain numbers: a step s is between the edges of a side W, for a pixel at x and the drifts t at its step and s at the other
+-- in plain numbers: a step s is between the edges of a side W, for a pixel at x and the drifts t at its step and s at
+-- the other
 left-on : (W x t s : ℕ) → x < W → t ≤ x + s → W + t - x ≤ W + s
 left-on W x t s h k = omega arith
 
@@ -30,7 +31,8 @@ right-back : (W x t s : ℕ) → x < W → s < W + t - x → x + s < W + t
 right-back W x t s h k = omega arith
 
 -- steps from E up to X that are those from t - b to t + a
-ends : (t b a E X : ℕ) → b ≤ t → E ≤ t → t < X → t ≤ E + b → X ≤ suc (t + a) → E ≤ t - b → t + a < X → (t - E ≡ b) × (X - E ≡ suc (b + a))
+ends : (t b a E X : ℕ) → b ≤ t → E ≤ t → t < X → t ≤ E + b → X ≤ suc (t + a) → E ≤ t - b → t + a < X
+    → (t - E ≡ b) × (X - E ≡ suc (b + a))
 ends t b a E X low before beyond p q r s =
     let e : E + b ≡ t = omega arith in
     let v : X ≡ suc (t + a) = omega arith in
@@ -56,44 +58,68 @@ module _ (g : Grid) (sized : Sized g) (M m : ℕ) (rows : M < g .height) (column
 
   -- the row of a step
   pub row-of-step : (s : ℕ) → majorAt (g .line) M s ≡ rowAt g (startRow g M) s
-  unfolding majorAt rowAt startRow
-  row-of-step s = refl
+  unfolding rowAt startRow
+  row-of-step s = major-is (g .line) M s
 
-  on-of-inside : (s : ℕ) → Inside (g .line) (g .height) (g .width) M (normal g m) s → OnPage g (startRow g M) (nameOf g M m) s
-  unfolding lineName majorAt startRow
-  on-of-inside s i = record { row = i .long; left = left-on _ _ _ _ place-below (i .low); right = right-on _ _ _ _ place-below (i .high) }
+  on-of-inside : (s : ℕ) → Inside (g .line) (g .height) (g .width) M (normal g m) s
+      → OnPage g (startRow g M) (nameOf g M m) s
+  unfolding lineName startRow
+  on-of-inside s i =
+      record {
+        row =
+            omega (arith, major-is (g .line) M s, i .long);
+        left =
+            left-on _ _ _ _ place-below (i .low);
+        right = right-on _ _ _ _ place-below (i .high);
+      }
 
-  inside-of-on : (s : ℕ) → OnPage g (startRow g M) (nameOf g M m) s → Inside (g .line) (g .height) (g .width) M (normal g m) s
-  unfolding lineName majorAt startRow
-  inside-of-on s o = record { long = o .row; low = left-back _ _ _ _ place-below (o .left); high = right-back _ _ _ _ place-below (o .right) }
+  inside-of-on : (s : ℕ) → OnPage g (startRow g M) (nameOf g M m) s
+      → Inside (g .line) (g .height) (g .width) M (normal g m) s
+  unfolding lineName startRow
+  inside-of-on s o =
+      record {
+        long =
+            omega (arith, major-is (g .line) M s, o .row);
+        low =
+            left-back _ _ _ _ place-below (o .left);
+        high = right-back _ _ _ _ place-below (o .right);
+      }
 
   -- the steps in the page are those from the entry up to where the line leaves
   pub in-page-on : (s : ℕ) → inPage (g .line) (g .height) (g .width) M m s ≡ true
       → (entry g (nameOf g M m) ≤ s) × (s < leave g (startRow g M) (nameOf g M m))
-  in-page-on s e = on-line g sized _ _ s (on-of-inside s (inside (g .line) (sized .sound) (g .height) (g .width) M m s columns e))
+  in-page-on s e =
+      on-line g sized _ _ s (on-of-inside s (inside (g .line) (sized .sound) (g .height) (g .width) M m s columns e))
 
   pub on-in-page : (s : ℕ) → entry g (nameOf g M m) ≤ s → s < leave g (startRow g M) (nameOf g M m)
       → inPage (g .line) (g .height) (g .width) M m s ≡ true
-  on-in-page s h k = inside-in-page (g .line) (sized .sound) (g .height) (g .width) M m s columns (inside-of-on s (on-page g sized _ _ s h k))
+  on-in-page s h k =
+      inside-in-page (g .line) (sized .sound) (g .height) (g .width) M m s columns
+      (inside-of-on s (on-page g sized _ _ s h k))
 
   -- its own step is one of them
-  pub own-on : (entry g (nameOf g M m) ≤ stepOf (g .line) M) × (stepOf (g .line) M < leave g (startRow g M) (nameOf g M m))
+  pub own-on : (entry g (nameOf g M m) ≤ stepOf (g .line) M)
+      × (stepOf (g .line) M < leave g (startRow g M) (nameOf g M m))
   own-on = on-line g sized _ _ _ (grid.own-step g sized M (normal g m) rows place-below)
 
   counted-on : (s : ℕ) → stepOf (g .line) M ≤ s + behind (g .line) (g .height) (g .width) M m
       → s ≤ stepOf (g .line) M + ahead (g .line) (g .height) (g .width) M m
       → inPage (g .line) (g .height) (g .width) M m s ≡ true
-  counted-on s h k = consecutive (g .line) (sized .sound) (g .height) (g .width) M m rows columns s ∙ ap₂ _&&_ (le-leb _ _ h) (le-leb _ _ k)
+  counted-on s h k =
+      consecutive (g .line) (sized .sound) (g .height) (g .width) M m rows columns s
+      ∙ ap₂ _&&_ (le-leb _ _ h) (le-leb _ _ k)
 
   on-counted : (s : ℕ) → inPage (g .line) (g .height) (g .width) M m s ≡ true
       → (stepOf (g .line) M ≤ s + behind (g .line) (g .height) (g .width) M m)
       × (s ≤ stepOf (g .line) M + ahead (g .line) (g .height) (g .width) M m)
   on-counted s e =
-      let both = and-true _ _ (sym (consecutive (g .line) (sized .sound) (g .height) (g .width) M m rows columns s) ∙ e) in
+      let both =
+      and-true _ _ (sym (consecutive (g .line) (sized .sound) (g .height) (g .width) M m rows columns s) ∙ e) in
       (leb-true _ _ (both .0), leb-true _ _ (both .1))
 
   numbers : (number g M (normal g m) ≡ behind (g .line) (g .height) (g .width) M m)
-      × (lineSteps g M (normal g m) ≡ suc (behind (g .line) (g .height) (g .width) M m + ahead (g .line) (g .height) (g .width) M m))
+      × (lineSteps g M (normal g m)
+      ≡ suc (behind (g .line) (g .height) (g .width) M m + ahead (g .line) (g .height) (g .width) M m))
   unfolding number lineSteps steps
   numbers =
       go (stepOf (g .line) M) (behind (g .line) (g .height) (g .width) M m) (ahead (g .line) (g .height) (g .width) M m)

@@ -1,8 +1,8 @@
--- What the code keeps in the scratch: the page in normal form, with the neutral value where a pixel is absent. Nothing here is needed to
--- read what a filter does (Filters, Promises); the contracts of the functions below it cite it.
+-- What the code keeps in the scratch: the page in normal form, with the neutral value where a pixel is absent. Nothing
+-- here is needed to read what a filter does (Filters, Promises); the contracts of the functions below it cite it.
 -- Assumes nothing.
 use mathlib.Core.Path.{_≡_}
-use mathlib.Core.Bool.{Bool, true, false, cond}
+use mathlib.Core.Bool.{Bool, true, false}
 use mathlib.Core.Option.{Option, none, some}
 use mathlib.Core.List.{List}
 use Prim.Native.Nat.{ℕ, _+_, _-_, _*_, _≤_, _<_}
@@ -44,7 +44,9 @@ Bytes page = (M m v : ℕ) → page M m ≡ some v → v ≤ 255
 
 -- a page of plain numbers in normal form shows the page
 unfoldable pub Shows : Grid → View → Page → Type 0
-Shows g page f = (M m : ℕ) → M < g .height → m < g .width → f M (mirrored (falls (g .line)) (g .width) m) ≡ orNeutral (g .low) (page M m)
+Shows g page f =
+    (M m : ℕ) → M < g .height → m < g .width
+    → f M (mirrored (falls (g .line)) (g .width) m) ≡ orNeutral (g .low) (page M m)
 
 -- ---- the segment's line on the page in normal form
 
@@ -65,7 +67,8 @@ passed how low page = pass low (how .segment .line) (backOf (how .segment) low) 
 
 abbrev pub passCost : Recipe → Layout → Bool → ℕ
 passCost how lay low =
-    passWork (how .segment .line) (compactHeight lay) (compactWidth lay) (how .segment .length) (backOf (how .segment) low)
+    passWork (how .segment .line) (compactHeight lay) (compactWidth lay) (how .segment .length)
+    (backOf (how .segment) low)
 
 -- how its page is laid out in the scratch
 abbrev pub layoutOf : Recipe → ℕ → ℕ → Layout
@@ -94,7 +97,8 @@ placeOf how width height c r = compactAt (layoutOf how width height) c r
 pub record Held (how : Recipe) (width height : ℕ) (page : View) (scratch : List ℕ) : Type 0 where
   pub absent : Absent (downOf (steepOf how) width height) (acrossOf (steepOf how) width height) page
   pub bytes : Bytes page
-  pub none-there : (r : ℕ) → r < height → (c : ℕ) → c < width → hidden (recipeBoxes how) c r ≡ true → turned (steepOf how) page c r ≡ none
+  pub none-there : (r : ℕ) → r < height → (c : ℕ) → c < width → hidden (recipeBoxes how) c r ≡ true
+      → turned (steepOf how) page c r ≡ none
   pub one-there :
       (r : ℕ) → r < height → (c : ℕ) → c < width → hidden (recipeBoxes how) c r ≡ false
       → turned (steepOf how) page c r ≡ some (getD scratch (placeOf how width height c r) 0)
@@ -118,10 +122,12 @@ pub record Runs (how : Recipe) (lay : Layout) (profile reaches : List ℕ) (room
   pub two-pages : lay .width * lay .height + lay .width * lay .height ≤ room
 
 -- what it leaves: the page filtered, and nothing behind the two pages changed, with at most so many comparisons a pixel
-pub record PassDone (how : Recipe) (lay : Layout) (filter : View → View) (work most : ℕ) (before after : List ℕ) (count : ℕ) : Type 0 where
+pub record PassDone (how : Recipe) (lay : Layout) (filter : View → View) (work most : ℕ) (before after : List ℕ)
+    (count : ℕ) : Type 0 where
   pub same-length : length after ≡ length before
   pub rest : (i : ℕ) → lay .width * lay .height + lay .width * lay .height ≤ i → getD after i 0 ≡ getD before i 0
-  pub page : (page : View) → Held how (lay .width) (lay .height) page before → Held how (lay .width) (lay .height) (filter page) after
+  pub page : (page : View) → Held how (lay .width) (lay .height) page before
+      → Held how (lay .width) (lay .height) (filter page) after
   pub counted : count ≡ work
   pub few : count ≤ most * (lay .width * lay .height)
 

@@ -1,6 +1,7 @@
--- Document 01, 'The four filters', along a segment: a line, a length L and an origin o. A page is a function with nothing where a pixel is
--- absent (Seen); a filter makes such a page of such a page, so what is absent stays absent and "hidden pixels are absent in the
--- second pass too". Up to `operated` a page is by its place M on the major axis and m on the minor one, from `filtered` on by column and row.
+-- Document 01, 'The four filters', along a segment: a line, a length L and an origin o. A page is a function with
+-- nothing where a pixel is absent (Seen); a filter makes such a page of such a page, so what is absent stays absent and
+-- "hidden pixels are absent in the second pass too". Up to `operated` a page is by its place M on the major axis and m
+-- on the minor one, from `filtered` on by column and row.
 -- Assumes nothing.
 use Prim.Native.Nat.{ℕ, zero, suc, _+_, _-_}
 use mathlib.Core.Bool.{Bool, true, false, cond}
@@ -40,7 +41,8 @@ onLine l page M m s = valueAt page (majorAt l M s) (landing l m (stepOf l M) s)
 unfoldable pub inWindow : Line → View → ℕ → ℕ → ℕ → ℕ → Option ℕ
 inWindow l page a M m k = cond (leb a (stepOf l M + k)) (onLine l page M m (stepOf l M + k - a)) none
 
--- one pass: the lowest, or highest, of the window of n steps that begins a steps before each pixel; an absent pixel stays absent
+-- one pass: the lowest, or highest, of the window of n steps that begins a steps before each pixel; an absent pixel
+-- stays absent
 unfoldable pub passAt : Bool → Line → ℕ → ℕ → View → ℕ → ℕ → Option ℕ → Option ℕ
 passAt low l a n page M m none = none
 passAt low l a n page M m (some v) = extreme low (inWindow l page a M m) 0 n

@@ -3,3 +3,4 @@ pub mod Filters
 pub mod Work
 pub mod Engine
 pub mod Promises
+pub mod Laws

@@ -1,6 +1,6 @@
--- Document 01, 'Work'. The comparisons of a pass are charged to the pixels: x is a pixel's number on its line, n how many pixels
--- the line has, L the length of a block, a how far the window begins before its pixel.
--- "Hidden pixels cost the same", so nothing here looks at a box. A whole number; the answer carries it in 64 bits.
+-- Document 01, 'Work'. The comparisons of a pass are charged to the pixels: x is a pixel's number on its line, n how
+-- many pixels the line has, L the length of a block, a how far the window begins before its pixel. "Hidden pixels cost
+-- the same", so nothing here looks at a box. A whole number; the answer carries it in 64 bits.
 -- Assumes nothing.
 use Prim.Native.Nat.{ℕ, suc, _+_, _-_}
 use mathlib.Core.Bool.{cond}
@@ -27,7 +27,8 @@ passWork l H W L a = total (λ (M : ℕ). total (λ (m : ℕ). chargedAt l H W L
 
 -- of a page w by h: in an erosion, in a dilation
 unfoldable pub erosionWork : Segment → ℕ → ℕ → ℕ
-erosionWork s w h = passWork (s .line) (cond (runsSteep (s .line)) h w) (cond (runsSteep (s .line)) w h) (s .length) (s .origin)
+erosionWork s w h =
+    passWork (s .line) (cond (runsSteep (s .line)) h w) (cond (runsSteep (s .line)) w h) (s .length) (s .origin)
 
 unfoldable pub dilationWork : Segment → ℕ → ℕ → ℕ
 dilationWork s w h =

@@ -20,7 +20,9 @@ fn no_entries() -> [usize; 8192]
 
 // The profile and the entry table of a line, as long as the page in normal form has rows.
 fn fill_tables(how: Recipe, profile: &mut [usize], reaches: &mut [usize])
-    requires { ⌜ Allowed (how .segment .line) × (length (now profile) ≤ 8192) × (length (now reaches) ≡ length (now profile)) ⌝ }
+    requires { ⌜ Allowed (how .segment .line)
+        × (length (now profile) ≤ 8192)
+        × (length (now reaches) ≡ length (now profile)) ⌝ }
     ensures { λ _. ⌜ Tables how (length (now (profile .entry))) (now (profile .exit)) (now (reaches .exit)) ⌝ }
 {
     let line = passes::line_of(how);
@@ -70,7 +72,9 @@ fn filter_with(
     requires { ⌜ way .lay ≡ layoutOf how (way .from .width) (way .from .height) ⌝ }
     requires { ⌜ length (now profile) ≡ compactHeight (way .lay) ⌝ }
     requires { ⌜ length (now reaches) ≡ length (now profile) ⌝ }
-    ensures { λ r. ⌜ Filtered how (way .from) (way .to) (now (source .entry)) (now (output .entry)) (now (scratch .entry)) (now (output .exit)) (now (scratch .exit)) r ⌝ }
+    ensures { λ r. ⌜ Filtered how (way .from) (way .to)
+        (now (source .entry)) (now (output .entry)) (now (scratch .entry))
+        (now (output .exit)) (now (scratch .exit)) r ⌝ }
 {
     let from = way.from;
     let to = way.to;
@@ -81,8 +85,9 @@ fn filter_with(
     work
 }
 
-// The page at one place filtered into the page at the other: every pixel is as the recipe makes it, no other byte of the output is
-// written. It answers the comparisons. The first bytes of the scratch, two for each pixel, are used and left as they are.
+// The page at one place filtered into the page at the other: every pixel is as the recipe makes it, no other byte of
+// the output is written. It answers the comparisons. The first bytes of the scratch, two for each pixel, are used and
+// left as they are.
 pub fn filter(
     how: Recipe,
     source: &[u8],
@@ -92,7 +97,9 @@ pub fn filter(
     scratch: &mut [u8],
 ) -> usize
     requires { ⌜ Fits how from to (length (now source)) (length (now output)) (length (now scratch)) ⌝ }
-    ensures { λ r. ⌜ Filtered how from to (now (source .entry)) (now (output .entry)) (now (scratch .entry)) (now (output .exit)) (now (scratch .exit)) r ⌝ }
+    ensures { λ r. ⌜ Filtered how from to
+        (now (source .entry)) (now (output .entry)) (now (scratch .entry))
+        (now (output .exit)) (now (scratch .exit)) r ⌝ }
 {
     let mut profile = no_entries();
     let mut reaches = no_entries();

@@ -116,7 +116,8 @@ fn one_pass(
     scratch: &mut [u8],
 ) -> usize
     requires { ⌜ Runs how lay (now profile) (now reaches) (length (now scratch)) ⌝ }
-    ensures { λ r. ⌜ PassDone how lay (passed how low) (passCost how lay low) 3 (now (scratch .entry)) (now (scratch .exit)) r ⌝ }
+    ensures { λ r. ⌜ PassDone how lay (passed how low) (passCost how lay low) 3
+        (now (scratch .entry)) (now (scratch .exit)) r ⌝ }
 {
     let absent = neutral_of(low);
     hide_all(how, lay, scratch, absent);
@@ -134,7 +135,9 @@ pub fn filter_held(
 ) -> usize
     requires { ⌜ Runs how lay (now profile) (now reaches) (length (now scratch)) ⌝ }
     requires { ⌜ (1 ≤ how .operation) × (how .operation ≤ 4) ⌝ }
-    ensures { λ r. ⌜ PassDone how lay (operated (how .operation) (how .segment)) (workOf (how .operation) (how .segment) (lay .width) (lay .height)) 6 (now (scratch .entry)) (now (scratch .exit)) r ⌝ }
+    ensures { λ r. ⌜ PassDone how lay (operated (how .operation) (how .segment))
+        (workOf (how .operation) (how .segment) (lay .width) (lay .height)) 6
+        (now (scratch .entry)) (now (scratch .exit)) r ⌝ }
 {
     let operation = how.operation;
     if operation == EROSION {

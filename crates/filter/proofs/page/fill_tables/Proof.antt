@@ -17,8 +17,16 @@ fill-profile-requires c κs =
 returns : tie.Need-returns
 returns c =
     let start = c .before .before .before .before .before .before .before .before .before .before .before .before in
-    tables-as (start .args .how) _ _ _ _ (c .before .before .before .before .before .before .before .before .before .line-of .ensures) (c .before .before .before .before .before .before .before .fill-profile .ensures .0) (c .before .before .fill-reach .ensures .0 ∙ start .pre .2) (c .before .before .before .before .before .before .before .fill-profile .ensures .1) (c .before .before .fill-reach .ensures .1 .1)
+    tables-as (start .args .how) _ _ _ _
+    (c .before .before .before .before .before .before .before .before .before .line-of .ensures)
+    (c .before .before .before .before .before .before .before .fill-profile .ensures .0)
+    (c .before .before .fill-reach .ensures .0 ∙ start .pre .2)
+    (c .before .before .before .before .before .before .before .fill-profile .ensures .1)
+    (c .before .before .fill-reach .ensures .1 .1)
 
 pub fill-tables-spec : {M : Type 1} → statement M
 fill-tables-spec =
-    tie.close (tie.spec (λ c κs. search needs) fill-profile-requires (λ c κs. search needs) (λ c. c .before .before .before .before .before .before .before .fill-profile .ensures .0) (λ c. c .before .before .fill-reach .ensures .0) returns)
+    tie.close
+    (tie.spec (λ c κs. search needs) fill-profile-requires (λ c κs. search needs)
+    (λ c. c .before .before .before .before .before .before .before .fill-profile .ensures .0)
+    (λ c. c .before .before .fill-reach .ensures .0) returns)

@@ -9,36 +9,54 @@ page-in-requires : tie.Need-page-in-requires
 page-in-requires c κs =
     let start = c .before .before .before .before .before in
     let a = start .args in
-    let pre = start .pre in
-    (pre .0 .from-tray, (same-sides (a .how) (a .from) (a .lay) (pre .1 .0), room-one (a .how) (a .from) (a .lay) (pre .1 .0) _ _ (pre .0)))
+    let pre = start .pre in (
+      pre .0 .from-tray,
+      (
+        same-sides (a .how) (a .from) (a .lay) (pre .1 .0),
+        room-one (a .how) (a .from) (a .lay)
+            (pre .1 .0) _ _ (pre .0),
+      ),
+    )
 
 filter-held-requires : tie.Need-filter-held-requires
 filter-held-requires c κs =
     let start = c .before .before .before .before .before .before .before .before .before in
     let a = start .args in
     let pre = start .pre in (
-      runs-asks (a .how) (a .from) (a .lay) (pre .1 .0) _ _ (pre .0) _ _ (pre .1 .1) _ (c .before .before .before .page-in .ensures .size),
+      runs-asks (a .how) (a .from) (a .lay) (pre .1 .0) _ _ (pre .0) _ _ (pre .1 .1) _
+          (c .before .before .before .page-in .ensures .size),
       (pre .0 .operation-from, pre .0 .operation-to),
     )
 
 hide-all-requires : tie.Need-hide-all-requires
 hide-all-requires c κs =
-    let start = c .before .before .before .before .before .before .before .before .before .before .before .before .before in
+    let start =
+    c .before .before .before .before .before .before .before .before .before .before .before .before .before in
     let a = start .args in
     let pre = start .pre in (
       pre .0 .count-most,
       record {
         lie = boxes-lie (a .how) (a .from) (a .lay) (pre .1 .0) _ _ (pre .0);
         room =
-            omega
-            (arith, room-one (a .how) (a .from) (a .lay) (pre .1 .0) _ _ (pre .0), c .before .before .before .before .before .before .before .page-in .ensures .size, c .before .before .before .filter-held .ensures .same-length);
+            omega (
+              arith,
+              room-one (a .how) (a .from) (a .lay) (pre .1 .0) _ _
+                  (pre .0),
+              c .before .before .before .before .before .before .before .page-in .ensures .size,
+              c .before .before .before .filter-held .ensures .same-length,
+            );
       },
     )
 
 returns : tie.Need-returns
 returns c =
-    let start = c .before .before .before .before .before .before .before .before .before .before .before .before .before .before .before .before in
-    ready-as (start .args .how) (start .args .from) (start .args .lay) (start .pre .1 .0) (start .args .source .now) (λ k. c .before .before .before .before .before .before .before .before .before .before .before .before .before .before .before .shared-slice-known .given k .fits) _ _ _ _ _
+    let start =
+    c .before .before .before .before .before .before .before .before .before .before .before .before
+    .before .before .before .before in
+    ready-as (start .args .how) (start .args .from) (start .args .lay) (start .pre .1 .0) (start .args .source .now)
+    (λ k.
+    c .before .before .before .before .before .before .before .before .before .before .before .before
+    .before .before .before .shared-slice-known .given k .fits) _ _ _ _ _
     (c .before .before .before .before .before .before .before .before .before .before .page-in .ensures)
     (c .before .before .before .before .before .before .filter-held .ensures)
     (c .before .before .hide-all .ensures)

@@ -10,12 +10,19 @@ use Rattle.filter.proofs.passes.grid_of.Statement.{statement}
 use Rattle.filter.proofs.passes.grid_of.Tie as tie
 
 period-of-requires : tie.Need-period-of-requires
-period-of-requires c κs = subst Drift.Allowed (sym (c .before .before .before .before .line-of .ensures)) (c .before .before .before .before .before .pre .0 .line)
+period-of-requires c κs =
+    subst Drift.Allowed (sym (c .before .before .before .before .line-of .ensures))
+    (c .before .before .before .before .before .pre .0 .line)
 
 sub-t11 : tie.Need-sub-t11
 sub-t11 c =
     let start = c .before .before .before .before .before .before .before in
-    omega (arith, c .before .before .before .before .back-of .ensures, back-below (start .args .how .segment) (start .pre .0) (start .args .low))
+    omega (
+      arith,
+      c .before .before .before .before .back-of .ensures,
+      back-below (start .args .how .segment) (start .pre .0)
+          (start .args .low),
+    )
 
 returns : tie.Need-returns
 returns c =

@@ -9,7 +9,8 @@ use Rattle.filter.proofs.passes.layout_of.Tie as tie
 returns : tie.Need-returns
 returns c =
     let a = c .before .before .args in
-    ap₂ {C = Layout} (λ (steep falls : Bool). record { steep = steep; falls = falls; width = a .width; height = a .height })
+    ap₂ {C = Layout}
+    (λ (steep falls : Bool). record { steep = steep; falls = falls; width = a .width; height = a .height })
     (c .before .is-steep .ensures)
     (c .does-fall .ensures)
 

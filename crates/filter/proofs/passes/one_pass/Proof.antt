@@ -18,12 +18,16 @@ grid-of-requires c κs =
 pass-requires : tie.Need-pass-requires
 pass-requires c κs =
     let start = c .before .before .before .before .before .before .before .before .before .before in
-    pass-asks _ _ _ _ _ (start .pre) (start .args .low) _ (c .before .grid-of .ensures) _ (c .before .before .before .before .hide-all .ensures .same-length)
+    pass-asks _ _ _ _ _ (start .pre) (start .args .low) _ (c .before .grid-of .ensures) _
+    (c .before .before .before .before .hide-all .ensures .same-length)
 
 returns : tie.Need-returns
 returns c =
-    let start = c .before .before .before .before .before .before .before .before .before .before .before .before .before in
-    pass-done-as _ _ _ _ _ (start .pre) (start .args .low) _ (c .before .before .before .before .grid-of .ensures) _ (c .before .before .before .before .before .before .before .before .before .neutral-of .ensures) _ _ _ _ (c .before .before .before .before .before .before .before .hide-all .ensures) (c .before .before .pass .ensures)
+    let start =
+    c .before .before .before .before .before .before .before .before .before .before .before .before .before in
+    pass-done-as _ _ _ _ _ (start .pre) (start .args .low) _ (c .before .before .before .before .grid-of .ensures) _
+    (c .before .before .before .before .before .before .before .before .before .neutral-of .ensures) _ _ _ _
+    (c .before .before .before .before .before .before .before .hide-all .ensures) (c .before .before .pass .ensures)
 
 pub one-pass-spec : {M : Type 1} → statement M
 one-pass-spec =
