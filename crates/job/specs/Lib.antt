@@ -3,4 +3,3 @@ pub mod Judging
 pub mod Job
 pub mod Finishing
 pub mod Laws
-pub mod Cases

@@ -39,12 +39,13 @@ use Rattle.tray.specs.Written.{columnOf, rowOf, inside, writtenFrom, written, c
 use Rattle.tray.specs.declared.Placements.{Placements}
 use Rattle.filter.specs.Seen.{seen, turned, runsSteep}
 use Rattle.filter.specs.Filters.{joined, extreme, valueAt, onLine, inWindow, passAt, pass, eroded, dilationBack}
+use Rattle.filter.specs.Filters.{erosion, dilation, opening, closing}
 use Rattle.filter.specs.Filters.{dilated, opened, closed, operated, filtered, orWhite, recipeBoxes, filteredPage}
 use Rattle.filter.specs.Work.{charged, chargedAt, passWork, erosionWork, dilationWork, workOf}
 use Rattle.job.specs.Order.{lineOf, segmentOf, recipeOf, pagesOf}
 use Rattle.job.specs.Judging.{judgeSides, judgeSource, judgeOutput, judgeScratch, judgeBoxesFrom, judgeBoxes}
 use Rattle.job.specs.Judging.{judgePlaces}
 use Rattle.job.specs.Job.{finished, jobWork, jobScratch, answer, lengths, outputAfter, scratchAfter}
 
 -- ---- tickets
 
@@ -67,18 +68,6 @@ plain operation l o = ticket operation 1 1 0 l o 0
 
 abbrev box : ℕ → ℕ → ℕ → ℕ → List ℕ
 box left top width height = (7 ∷ 0 ∷ 8 ∷ word left) ++ word top ++ word width ++ word height
-
-abbrev erode : ℕ
-erode = 1
-
-abbrev dilate : ℕ
-dilate = 2
-
-abbrev open3 : ℕ
-open3 = 3
-
-abbrev close4 : ℕ
-close4 = 4
 
 -- ---- the table
 
@@ -188,37 +177,37 @@ runOnce c =
 abbrev table : List Case
 table =
     -- 1 to 4
-    row (plain erode 2 0) 3 (1 ∷ 1 ∷ 5 ∷ []) finishes
-    ∷ row (plain dilate 2 0) 3 (9 ∷ 9 ∷ 5 ∷ []) finishes
-    ∷ row (plain open3 2 0) 6 (1 ∷ 1 ∷ 5 ∷ []) finishes
-    ∷ row (plain close4 2 0) 6 (9 ∷ 5 ∷ 5 ∷ []) finishes
+    row (plain erosion 2 0) 3 (1 ∷ 1 ∷ 5 ∷ []) finishes
+    ∷ row (plain dilation 2 0) 3 (9 ∷ 9 ∷ 5 ∷ []) finishes
+    ∷ row (plain opening 2 0) 6 (1 ∷ 1 ∷ 5 ∷ []) finishes
+    ∷ row (plain closing 2 0) 6 (9 ∷ 5 ∷ 5 ∷ []) finishes
     -- 5
-    ∷ row (plain open3 2 1) 6 (9 ∷ 1 ∷ 1 ∷ []) finishes
+    ∷ row (plain opening 2 1) 6 (9 ∷ 1 ∷ 1 ∷ []) finishes
     -- 6
-    ∷ row (plain erode 1 0) 0 (9 ∷ 1 ∷ 5 ∷ []) finishes
-    ∷ row (plain dilate 1 0) 0 (9 ∷ 1 ∷ 5 ∷ []) finishes
-    ∷ row (plain open3 1 0) 0 (9 ∷ 1 ∷ 5 ∷ []) finishes
-    ∷ row (plain close4 1 0) 0 (9 ∷ 1 ∷ 5 ∷ []) finishes
+    ∷ row (plain erosion 1 0) 0 (9 ∷ 1 ∷ 5 ∷ []) finishes
+    ∷ row (plain dilation 1 0) 0 (9 ∷ 1 ∷ 5 ∷ []) finishes
+    ∷ row (plain opening 1 0) 0 (9 ∷ 1 ∷ 5 ∷ []) finishes
+    ∷ row (plain closing 1 0) 0 (9 ∷ 1 ∷ 5 ∷ []) finishes
     -- 7: a window of 8192 steps at each pixel takes some seconds to compute
-    ∷ runOnce (row (plain erode 8192 0) 4 (1 ∷ 1 ∷ 5 ∷ []) finishes)
+    ∷ runOnce (row (plain erosion 8192 0) 4 (1 ∷ 1 ∷ 5 ∷ []) finishes)
     -- 8, 9
-    ∷ row (plain open3 2 0 ++ box 1 0 1 1) 6 (9 ∷ 255 ∷ 5 ∷ []) finishes
-    ∷ row (plain open3 3 0 ++ box 1 0 1 1) 8 (5 ∷ 255 ∷ 5 ∷ []) finishes
+    ∷ row (plain opening 2 0 ++ box 1 0 1 1) 6 (9 ∷ 255 ∷ 5 ∷ []) finishes
+    ∷ row (plain opening 3 0 ++ box 1 0 1 1) 8 (5 ∷ 255 ∷ 5 ∷ []) finishes
     -- 10
     ∷ without [] 0 (refuses 1 0)
     -- 11
-    ∷ square (ticket erode 2 1 1 3 1 0) 8 (1 ∷ 2 ∷ 3 ∷ 4 ∷ 1 ∷ 2 ∷ 7 ∷ 4 ∷ 5 ∷ []) finishes
+    ∷ square (ticket erosion 2 1 1 3 1 0) 8 (1 ∷ 2 ∷ 3 ∷ 4 ∷ 1 ∷ 2 ∷ 7 ∷ 4 ∷ 5 ∷ []) finishes
     -- 12, 13
-    ∷ square (ticket dilate 1 2 1 2 1 0) 8 (5 ∷ 3 ∷ 3 ∷ 8 ∷ 6 ∷ 6 ∷ 7 ∷ 9 ∷ 9 ∷ []) finishes
-    ∷ square (ticket dilate 1 2 1 2 1 1) 8 (2 ∷ 6 ∷ 3 ∷ 5 ∷ 9 ∷ 6 ∷ 8 ∷ 8 ∷ 9 ∷ []) finishes
+    ∷ square (ticket dilation 1 2 1 2 1 0) 8 (5 ∷ 3 ∷ 3 ∷ 8 ∷ 6 ∷ 6 ∷ 7 ∷ 9 ∷ 9 ∷ []) finishes
+    ∷ square (ticket dilation 1 2 1 2 1 1) 8 (2 ∷ 6 ∷ 3 ∷ 5 ∷ 9 ∷ 6 ∷ 8 ∷ 8 ∷ 9 ∷ []) finishes
     -- 14
-    ∷ without (ticket erode 1 2 2 2 0 0) 0 (refuses 6 8)
-    ∷ row (ticket erode 2 2 2 2 0 0) 0 (9 ∷ 1 ∷ 5 ∷ []) finishes
-    ∷ without (ticket erode 1 0 0 2 0 0) 0 (refuses 6 8)
+    ∷ without (ticket erosion 1 2 2 2 0 0) 0 (refuses 6 8)
+    ∷ row (ticket erosion 2 2 2 2 0 0) 0 (9 ∷ 1 ∷ 5 ∷ []) finishes
+    ∷ without (ticket erosion 1 0 0 2 0 0) 0 (refuses 6 8)
     -- 15 (that L 8192 is accepted is case 7)
-    ∷ without (plain erode 8193 0) 0 (refuses 7 15)
-    ∷ without (plain erode 2 2) 0 (refuses 8 20)
-    ∷ without (plain erode 2 0) 1 (refuses 11 0)
+    ∷ without (plain erosion 8193 0) 0 (refuses 7 15)
+    ∷ without (plain erosion 2 2) 0 (refuses 8 20)
+    ∷ without (plain erosion 2 0) 1 (refuses 11 0)
     ∷ []
 
 -- ---- the placements
