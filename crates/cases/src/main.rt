@@ -1,8 +1,9 @@
-// Runs the small pages of document 01 through the job, cases 1 to 15, and prints a line for each job:
-// `case N: done W: PIXELS`, rows parted by ` / `, or `case N: refused R at P`. Where a case has several jobs, a word behind
-// its number tells them apart. `stdout` holds what the document says, and work that it does not state is counted by its rule; but the lines
-// of cases 1, 8, 10 and 11 and of the short tray had been seen from this program before they were stored. The same cases stand apart
-// from it in the proved table (job/specs/Cases.antt) and in the tests of the second program (compare/tests/small_cases.rs).
+// Runs the small pages of document 01 through the job, cases 1 to 15, and prints a line for each job: `case N: done
+// W: PIXELS`, rows parted by ` / `, or `case N: refused R at P`. Where a case has several jobs, a word behind its
+// number tells them apart. `stdout` holds what the document says, and work that it does not state is counted by its
+// rule; but the lines of cases 1, 8, 10 and 11 and of the short tray had been seen from this program before they
+// were stored. The same cases stand apart from it in the proved table (job/specs/Cases.antt) and in the tests of
+// the second program (compare/tests/small_cases.rs).
 mod form;
 mod text;
 
@@ -21,7 +22,8 @@ const OPEN: u8 = 3;
 
 const CLOSE: u8 = 4;
 
-// Runs the job of a ticket's first bytes on a page of rows of three pixels, which fills its output tray, and prints the answer.
+// Runs the job of a ticket's first bytes on a page of rows of three pixels, which fills its output tray, and prints
+// the answer.
 fn run(name: &[u8], bytes: [u8; 41], size: usize, source: &[u8], height: usize, output: &mut [u8])
     requires { ⌜ size ≤ 41 ⌝ }
 {

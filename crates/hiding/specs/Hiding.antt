@@ -1,5 +1,5 @@
--- Hidden pixels on the compact page: the boxes painted over it. Document 01: "The hidden boxes are handed on as one lent
--- list of boxes."
+-- Hidden pixels on the compact page: the boxes painted over it. Document 01: "The hidden boxes are handed on as one
+-- lent list of boxes."
 -- Assumes nothing.
 use mathlib.Core.Path.{_≡_}
 use mathlib.Core.Bool.{true, false}

@@ -1,5 +1,5 @@
--- The job as three functions. The answer takes the ticket's bytes, the placements and the three lengths, and nothing else:
--- "Refusals, places and work: ticket bytes, placements and the three lengths only."
+-- The job as three functions. The answer takes the ticket's bytes, the placements and the three lengths, and
+-- nothing else: "Refusals, places and work: ticket bytes, placements and the three lengths only."
 -- Assumes nothing.
 use Prim.Native.Nat.{ℕ}
 use mathlib.Core.List.{List}

@@ -1,4 +1,5 @@
--- Document 01, 'Refusals and what they return', 10 to 14: each is a test of its own, and of all the first refusal counts.
+-- Document 01, 'Refusals and what they return', 10 to 14: each is a test of its own, and of all the first refusal
+-- counts.
 -- Assumes nothing.
 use Prim.Native.Nat.{ℕ, zero, suc}
 use mathlib.Core.Bool.{_&&_}
@@ -32,7 +33,8 @@ judgeOutput p length = unless (fits (outputPage p) length) OutputTooShort 0
 unfoldable pub judgeScratch : ℕ → ℕ → ℕ → ℕ → Answer
 judgeScratch pages w h length = unless (leb (scratchNeeded pages w h) length) ScratchTooShort 0
 
--- | 14 | box with a zero side or passing the page's edge | box number from 0 |, "over the boxes in order": from the k-th box on
+-- | 14 | box with a zero side or passing the page's edge | box number from 0 |, "over the boxes in order": from the
+-- k-th box on
 unfoldable pub judgeBoxesFrom : ℕ → ℕ → ℕ → List HiddenBox → Answer
 judgeBoxesFrom w h k [] = Done 0
 judgeBoxesFrom w h k (b ∷ boxes) = unless (boxAllowed w h b) BadBox k then judgeBoxesFrom w h (suc k) boxes

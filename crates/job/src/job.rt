@@ -19,7 +19,8 @@ use tray::place;
 // A job that nothing refuses: the page filtered into the output tray, and the scratch it used zero again.
 fn finish(t: Ticket, p: Placements, source: &[u8], output: &mut [u8], scratch: &mut [u8]) -> usize
     requires { ⌜ Unrefused t p (length (now source)) (length (now output)) (length (now scratch)) ⌝ }
-    ensures { λ r. ⌜ Finished t p (now (source .entry)) (now (output .entry)) (now (scratch .entry)) (now (output .exit)) (now (scratch .exit)) r ⌝ }
+    ensures { λ r. ⌜ Finished t p (now (source .entry)) (now (output .entry)) (now (scratch .entry))
+        (now (output .exit)) (now (scratch .exit)) r ⌝ }
 {
     let how = recipe_of(t);
     let from = place::source_page(p);
@@ -39,7 +40,8 @@ fn run_read(
     scratch: &mut [u8],
 ) -> Answer
     requires { ⌜ Allowed t ⌝ }
-    ensures { λ r. ⌜ RanRead t p (now (source .entry)) (now (output .entry)) (now (scratch .entry)) (now (output .exit)) (now (scratch .exit)) r ⌝ }
+    ensures { λ r. ⌜ RanRead t p (now (source .entry)) (now (output .entry)) (now (scratch .entry))
+        (now (output .exit)) (now (scratch .exit)) r ⌝ }
 {
     let n = Lengths {
         source: source.len(),
@@ -54,8 +56,9 @@ fn run_read(
     Answer::Done(work as u64)
 }
 
-// The job. Every ticket, placement and buffer length gets an answer: a finished page and its comparisons, or the first of the
-// fourteen refusals. A refused job writes nothing. A finished one writes only its page, and leaves the scratch it used at zero.
+// The job. Every ticket, placement and buffer length gets an answer: a finished page and its comparisons, or the
+// first of the fourteen refusals. A refused job writes nothing. A finished one writes only its page, and leaves the
+// scratch it used at zero.
 pub fn run(
     ticket: &[u8],
     p: Placements,
@@ -63,9 +66,12 @@ pub fn run(
     output: &mut [u8],
     scratch: &mut [u8],
 ) -> Answer
-    ensures answered { λ r. ⌜ r ≡ answer (now (ticket .entry)) p (lengths (now (source .entry)) (now (output .entry)) (now (scratch .entry))) ⌝ }
-    ensures written { λ _. ⌜ now (output .exit) ≡ outputAfter (now (ticket .entry)) p (now (source .entry)) (now (output .entry)) (now (scratch .entry)) ⌝ }
-    ensures cleared { λ _. ⌜ now (scratch .exit) ≡ scratchAfter (now (ticket .entry)) p (now (source .entry)) (now (output .entry)) (now (scratch .entry)) ⌝ }
+    ensures answered { λ r. ⌜ r ≡ answer (now (ticket .entry)) p
+        (lengths (now (source .entry)) (now (output .entry)) (now (scratch .entry))) ⌝ }
+    ensures written { λ _. ⌜ now (output .exit) ≡ outputAfter (now (ticket .entry)) p (now (source .entry))
+        (now (output .entry)) (now (scratch .entry)) ⌝ }
+    ensures cleared { λ _. ⌜ now (scratch .exit) ≡ scratchAfter (now (ticket .entry)) p (now (source .entry))
+        (now (output .entry)) (now (scratch .entry)) ⌝ }
 {
     let reading = ticket::read(ticket);
     let read = reading.answer;

@@ -1,5 +1,5 @@
-// Refusals 10 to 14: whether a job's pages and boxes lie where they may. Each is a test of its own, so that a call that has no output
-// page can leave its test out.
+// Refusals 10 to 14: whether a job's pages and boxes lie where they may. Each is a test of its own, so that a call
+// that has no output page can leave its test out.
 ghost use mathlib.Core.Path.{_≡_};
 ghost use Prim.Native.Nat.{_≤_};
 ghost use lib.ListN.{length};
@@ -63,7 +63,8 @@ pub fn judge_boxes(t: Ticket, width: usize, height: usize) -> Answer
     Answer::Done(0)
 }
 
-// The first of refusals 10 to 14; without one it is done, with no work yet. The scratch is judged only for sides within their limits.
+// The first of refusals 10 to 14; without one it is done, with no work yet. The scratch is judged only for sides
+// within their limits.
 pub fn judge(t: Ticket, p: Placements, n: Lengths) -> Answer
     requires { ⌜ (t .count ≤ 64) × (length (t .boxes) ≡ 64) ⌝ }
     ensures { λ r. ⌜ r ≡ judgePlaces t p n ⌝ }

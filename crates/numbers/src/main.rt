@@ -1,6 +1,6 @@
-// Lists the number of each pixel on its line. Reads an order of 11 bytes from standard input: the kind of line (1 connected,
-// 2 periodic), dx and dy (signed), phase, width and height, two bytes each, big-endian. Prints a line of text for each row of
-// the page with `behind/ahead` for each pixel, or `bad input`.
+// Lists the number of each pixel on its line. Reads an order of 11 bytes from standard input: the kind of line (1
+// connected, 2 periodic), dx and dy (signed), phase, width and height, two bytes each, big-endian. Prints a line of
+// text for each row of the page with `behind/ahead` for each pixel, or `bad input`.
 mod listing;
 mod order;
 

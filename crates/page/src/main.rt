@@ -1,5 +1,6 @@
-// The page program. Reads standard input: width, height and ticket length, two bytes each, big-endian, then the ticket, then
-// the pixels row by row. Prints `bad input` or `too big`, `refused N at P`, or `done W` and the rows in decimal.
+// The page program. Reads standard input: width, height and ticket length, two bytes each, big-endian, then the
+// ticket, then the pixels row by row. Prints `bad input` or `too big`, `refused N at P`, or `done W` and the rows
+// in decimal.
 //
 // `stdin` is case 3 of document 01, the opening of the row 9 1 5, and `stdout` the two lines that it asks for.
 mod text;
@@ -49,8 +50,9 @@ fn larger(a: usize, b: usize) -> usize
     if a < b { b } else { a }
 }
 
-// The scratch that a page needs, or all 65,536 bytes of the buffer. Only a page with a zero side can need more, as any other
-// has sides of 8192 at most, and it is refused for its sides before the job looks at its scratch: the answer is the same.
+// The scratch that a page needs, or all 65,536 bytes of the buffer. Only a page with a zero side can need more, as
+// any other has sides of 8192 at most, and it is refused for its sides before the job looks at its scratch: the
+// answer is the same.
 fn scratch_lent(w: usize, h: usize, pixels: usize) -> usize
     requires { ⌜ w < 65536 ⌝ }
     requires { ⌜ h < 65536 ⌝ }

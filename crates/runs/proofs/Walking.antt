@@ -1,4 +1,5 @@
--- When the lines of a row entered and which of its pixels begin a block, and that a plan is carried out part by part. Assumes nothing.
+-- When the lines of a row entered and which of its pixels begin a block, and that a plan is carried out part by
+-- part. Assumes nothing.
 use mathlib.Core.Path.{_≡_, refl, sym, ap, ap₂, _∙_}
 use mathlib.Core.Bool.{Bool, true, false, cond}
 use mathlib.Core.List.{List}

@@ -1,5 +1,5 @@
--- The laws of the scheme along one line (Block): how a running extreme goes on from the step before or after it, and how a result
--- is made of at most two of them, with its cost.
+-- The laws of the scheme along one line (Block): how a running extreme goes on from the step before or after it,
+-- and how a result is made of at most two of them, with its cost.
 -- Assumes nothing.
 use mathlib.Core.Path.{_≡_, refl, sym, ap, ap₂, _∙_}
 use mathlib.Core.Bool.{Bool, true, false, _||_, cond, or-true}
@@ -227,7 +227,8 @@ module _ (L n a b s : ℕ) (whole : L ≡ suc (a + b)) where
           cost-none (n - 1 - s) (omega arith) (omega arith),
         )
 
-    -- one that the line's last step cuts, d steps after the window's first: in that step's block, if it is that far into it
+    -- one that the line's last step cuts, d steps after the window's first: in that step's block, if it is that far
+    -- into it
     module _ (d : ℕ) (last : n ≡ suc (s + d)) (cut : d ≤ a + b) where
       ends : min (s + a + b) (n - 1) ≡ s + d
       ends = omega arith

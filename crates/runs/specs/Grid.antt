@@ -1,6 +1,7 @@
--- A page in normal form, and its lines. A page is a function of a row R and a column x; rows are places on the major axis.
--- All pixels of a line share u = R mod period and z = width + drift at their step - x, so a line is named by these two numbers, and
--- what is said of a pixel is said of its line and its step. A line's pixels are its steps from its entry up to where it leaves.
+-- A page in normal form, and its lines. A page is a function of a row R and a column x; rows are places on the
+-- major axis. All pixels of a line share u = R mod period and z = width + drift at their step - x, so a line is
+-- named by these two numbers, and what is said of a pixel is said of its line and its step. A line's pixels are its
+-- steps from its entry up to where it leaves.
 -- Assumes nothing.
 use Prim.Native.Nat.{ℕ, suc, _+_, _-_, _*_, _%_, _≤_, _<_}
 use mathlib.Core.Bool.{Bool, _&&_, _||_, cond}

@@ -1,5 +1,5 @@
--- The laws of lines in normal form (Grid): which steps are in the page, that a pixel is found again from its line and step, and that
--- the running extremes at a pixel are those of its line.
+-- The laws of lines in normal form (Grid): which steps are in the page, that a pixel is found again from its line
+-- and step, and that the running extremes at a pixel are those of its line.
 -- Assumes nothing.
 use mathlib.Core.Path.{_≡_, refl, ap, _∙_}
 use mathlib.Core.Bool.{Bool, true, false, _||_}

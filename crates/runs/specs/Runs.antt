@@ -1,6 +1,6 @@
--- Runs of neighbouring pixels of one row, and the plans by which a row is made of them.
--- Lines that entered the page in its first row are all as far into their blocks; those that entered from the side are each where their
--- mark says.
+-- Runs of neighbouring pixels of one row, and the plans by which a row is made of them. Lines that entered the page
+-- in its first row are all as far into their blocks; those that entered from the side are each where their mark
+-- says.
 -- Assumes nothing.
 use Prim.Native.Nat.{ℕ, suc, _+_, _-_, _*_, _%_, _≤_, _<_}
 use mathlib.Core.Bool.{Bool, cond}
@@ -34,7 +34,8 @@ Copied to from n old new = Filled to n (λ k. getD old (from + k) 0) old new
 abbrev pub Chosen : Bool → ℕ → ℕ → ℕ → ℕ → List ℕ → List ℕ → Type 0
 Chosen low to first second n old new = Filled to n (λ k. chosen low (getD old (first + k) 0) (getD old (second + k) 0)) old new
 
--- a run whose bytes are kept as the first run has them where their marks say so, else chosen of the two; and how many were compared
+-- a run whose bytes are kept as the first run has them where their marks say so, else chosen of the two; and how
+-- many were compared
 unfoldable pub keptOr : Bool → Bool → ℕ → ℕ → ℕ
 keptOr low keeps a b = cond keeps a (chosen low a b)
 
@@ -89,15 +90,16 @@ pub record PastLine (g : Grid) (R t mid : ℕ) : Type 0 where
   pub entered : mid < g .width → drift (g .line) t ≤ mid
   pub past : (y : ℕ) → mid ≤ y → y < g .width → OnPage g (startRow g R) (lineName g R y) (t + g .on) → ⊥
 
--- the marks: for lines that have drifted v places when they enter, their entry's place in a block, the last v first; and behind them
--- some of the lines that enter in the first row, whose entry's place is 0
+-- the marks: for lines that have drifted v places when they enter, their entry's place in a block, the last v
+-- first; and behind them some of the lines that enter in the first row, whose entry's place is 0
 pub record Marked (g : Grid) (marks : List ℕ) : Type 0 where
   pub long : g .height + 32 ≤ length marks
   pub zero-is : (j : ℕ) → j < 32 → getD marks (g .height + j) 0 ≡ 0
   pub mark-is : (v : ℕ) → 1 ≤ v → v < g .height → getD marks (g .height - v) 0 ≡ reach (g .line) v (g .height) % g .length
 
--- whether a window that is cut at its line's last step lies in that step's block, by the line's mark; `last` is the step's place in a block
--- of the page, and the line's own block begins nearer to it or further up as its mark is up to `last` or past it
+-- whether a window that is cut at its line's last step lies in that step's block, by the line's mark; `last` is the
+-- step's place in a block of the page, and the line's own block begins nearer to it or further up as its mark is up
+-- to `last` or past it
 unfoldable pub inOneBlock : ℕ → ℕ → ℕ → ℕ → Bool
 inOneBlock last near far mark = ltb mark (cond (leb mark last) near far)
 
@@ -116,7 +118,8 @@ pub record Planned (g : Grid) (R : ℕ) (p : Plan) : Type 0 where
   pub second-apart : Apart (p .to) (p .second) (p .hi - p .lo)
   pub entered : (x : ℕ) → p .lo ≤ x → x < p .hi → entryAt g R x ≤ p .top
 
--- a plan carried out from its first column up to column x: at a block's first step copies, else the choice of two, which is counted
+-- a plan carried out from its first column up to column x: at a block's first step copies, else the choice of two,
+-- which is counted
 pub record Walked (g : Grid) (R : ℕ) (p : Plan) (x : ℕ) (old new : List ℕ) (count : ℕ) : Type 0 where
   pub kept : Kept (p .to) (p .to + (x - p .lo)) old new
   pub begins : (y : ℕ) → p .lo ≤ y → y < x → inBlock g R p y ≡ 0 → getD new (p .to + (y - p .lo)) 0 ≡ getD old (p .first + (y - p .lo)) 0
@@ -149,8 +152,8 @@ pub record BackwardPlan (g : Grid) (R t hi : ℕ) (p : Plan) : Type 0 where
   pub second-is : p .second ≡ size g + placeOn g R t 1
   pub top-is : p .top ≡ suc t
 
--- the windows that begin and end in their line: from the block's start of the window's last pixel, and from its first pixel to its block's
--- end; a window that is a block has either alone
+-- the windows that begin and end in their line: from the block's start of the window's last pixel, and from its
+-- first pixel to its block's end; a window that is a block has either alone
 pub record ResultPlan (g : Grid) (R t lo hi : ℕ) (p : Plan) : Type 0 where
   pub lo-is : p .lo ≡ lo
   pub hi-is : p .hi ≡ hi

@@ -1,10 +1,10 @@
-// A row of a page in normal form, made in runs of neighbouring bytes by a plan.
-// A page in normal form has its lines running down the rows and drifting to the right (geometry, Drift). The scratch holds two such
-// pages, A and behind it B.
+// A row of a page in normal form, made in runs of neighbouring bytes by a plan. A page in normal form has its lines
+// running down the rows and drifting to the right (geometry, Drift). The scratch holds two such pages, A and behind
+// it B.
 //
-// The definitions stand in specs/: Span (the extreme between two steps), Block (van Herk's scheme along one line, and its cost), Grid (lines
-// of a page in normal form), Scratch (the two pages, and what is kept of them), Runs (runs, marks and plans); BlockLaws and GridLaws are what
-// follows from them.
+// The definitions stand in specs/: Span (the extreme between two steps), Block (van Herk's scheme along one line,
+// and its cost), Grid (lines of a page in normal form), Scratch (the two pages, and what is kept of them), Runs
+// (runs, marks and plans); BlockLaws and GridLaws are what follows from them.
 //
 //     plans   how a row is made: what is written, what is read, where blocks begin
 //     walk    a plan carried out
@@ -19,7 +19,8 @@ pub mod run;
 pub mod step;
 pub mod walk;
 
-// The page's sides, its line, and the window: how far it reaches back and on from a pixel, and its length, back + 1 + on.
+// The page's sides, its line, and the window: how far it reaches back and on from a pixel, and its length, back + 1
+// + on.
 pub struct Grid {
     pub line: Line,
     pub width: usize,
@@ -31,8 +32,9 @@ pub struct Grid {
     pub low: bool,
 }
 
-// How a part of a row is made, from column lo up to hi: written from place `to` on, as it stands at `first` where a pixel's line is at a
-// block's first step, counted from step `top`, else chosen of `first` and `second`. All places are those of column lo.
+// How a part of a row is made, from column lo up to hi: written from place `to` on, as it stands at `first` where a
+// pixel's line is at a block's first step, counted from step `top`, else chosen of `first` and `second`. All places
+// are those of column lo.
 pub struct Plan {
     pub lo: usize,
     pub hi: usize,

@@ -1,5 +1,6 @@
-// Where the lines that entered from the side are in their blocks: a mark for each column left of a row's drift, in the order of the columns.
-// Some columns at the drift and right of it have marks too, so that a row's columns can be taken thirty-two at a time.
+// Where the lines that entered from the side are in their blocks: a mark for each column left of a row's drift, in
+// the order of the columns. Some columns at the drift and right of it have marks too, so that a row's columns can
+// be taken thirty-two at a time.
 ghost use mathlib.Core.Path.{_≡_};
 ghost use lib.ListN.{replicate};
 ghost use Rattle.runs.specs.Grid.{Sized, Tabled};

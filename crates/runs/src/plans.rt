@@ -84,7 +84,8 @@ pub fn backward_plan(
     }
 }
 
-// Where windows reach no step on, their last pixel is the one that is written: it comes first, so that the row is made in place.
+// Where windows reach no step on, their last pixel is the one that is written: it comes first, so that the row is
+// made in place.
 pub fn result_plan(
     g: Grid,
     profile: &[usize],

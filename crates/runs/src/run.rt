@@ -1,5 +1,5 @@
-// Runs of neighbouring bytes: copied, or chosen of two runs. Every comparison of a pass is done here but for those of `pixel`, and is
-// counted where it is done.
+// Runs of neighbouring bytes: copied, or chosen of two runs. Every comparison of a pass is done here but for those
+// of `pixel`, and is counted where it is done.
 ghost use mathlib.Core.Path.{_≡_};
 ghost use Prim.Native.Nat.{_+_, _≤_, _<_};
 ghost use mathlib.Core.Bool.{cond};
@@ -44,7 +44,8 @@ pub fn choose_run(
     second: usize,
     n: usize,
 ) -> usize
-    requires { ⌜ (to + n ≤ length (now bytes)) × (first + n ≤ length (now bytes)) × (second + n ≤ length (now bytes)) ⌝ }
+    requires { ⌜ (to + n ≤ length (now bytes)) × (first + n ≤ length (now bytes)) ×
+        (second + n ≤ length (now bytes)) ⌝ }
     requires { ⌜ Apart to first n × Apart to second n ⌝ }
     ensures { λ r. ⌜ Chosen low to first second n (now (bytes .entry)) (now (bytes .exit)) × (r ≡ n) ⌝ }
 {
@@ -58,8 +59,8 @@ pub fn choose_run(
     count
 }
 
-// The same where the first run is the one that is written: apart from the one above, since a compiler that finds the two at one place
-// must take them byte by byte, unless it knows.
+// The same where the first run is the one that is written: apart from the one above, since a compiler that finds
+// the two at one place must take them byte by byte, unless it knows.
 pub fn choose_into(low: bool, bytes: &mut [u8], to: usize, second: usize, n: usize) -> usize
     requires { ⌜ (to + n ≤ length (now bytes)) × (second + n ≤ length (now bytes)) × Apart to second n ⌝ }
     ensures { λ r. ⌜ Chosen low to to second n (now (bytes .entry)) (now (bytes .exit)) × (r ≡ n) ⌝ }
@@ -74,8 +75,9 @@ pub fn choose_into(low: bool, bytes: &mut [u8], to: usize, second: usize, n: usi
     count
 }
 
-// The first of two values where it is kept, else the choice of them, which is the one that compares. Which way to choose is asked first: the
-// compiler takes sixteen bytes at once then, and not where whether to keep is asked first.
+// The first of two values where it is kept, else the choice of them, which is the one that compares. Which way to
+// choose is asked first: the compiler takes sixteen bytes at once then, and not where whether to keep is asked
+// first.
 fn kept_or_chosen(low: bool, keeps: bool, a: u8, b: u8) -> u8
     ensures { λ r. ⌜ r ≡ keptOr low keeps a b ⌝ }
 {
@@ -104,8 +106,8 @@ fn compared_of(keeps: bool) -> u8
     if keeps { 0 } else { 1 }
 }
 
-// A run of which those bytes are kept whose mark is the given one. A byte counts its comparisons, which is as wide as what is compared, so
-// that the compiler takes thirty-two at once; hence at most 224, seven times that.
+// A run of which those bytes are kept whose mark is the given one. A byte counts its comparisons, which is as wide
+// as what is compared, so that the compiler takes thirty-two at once; hence at most 224, seven times that.
 pub fn mark_run(
     low: bool,
     bytes: &mut [u8],
@@ -117,9 +119,12 @@ pub fn mark_run(
     second: usize,
     n: usize,
 ) -> usize
-    requires { ⌜ (to + n ≤ length (now bytes)) × (first + n ≤ length (now bytes)) × (second + n ≤ length (now bytes)) ⌝ }
+    requires { ⌜ (to + n ≤ length (now bytes)) × (first + n ≤ length (now bytes)) ×
+        (second + n ≤ length (now bytes)) ⌝ }
     requires { ⌜ Apart to first n × Apart to second n × (at + n ≤ length (now marks)) × (n ≤ 224) ⌝ }
-    ensures { λ r. ⌜ ChosenUnless low (λ k. eqb (getD (now (marks .entry)) (at + k) 0) mark) to first second n (now (bytes .entry)) (now (bytes .exit)) × (r ≡ total (comparedOf (λ k. eqb (getD (now (marks .entry)) (at + k) 0) mark)) 0 n) ⌝ }
+    ensures { λ r. ⌜ ChosenUnless low (λ k. eqb (getD (now (marks .entry)) (at + k) 0) mark) to first second n
+        (now (bytes .entry)) (now (bytes .exit)) ×
+        (r ≡ total (comparedOf (λ k. eqb (getD (now (marks .entry)) (at + k) 0) mark)) 0 n) ⌝ }
 {
     let mut count: u8 = 0;
     let mut k: usize = 0;
@@ -145,7 +150,9 @@ pub fn mark_into(
 ) -> usize
     requires { ⌜ (to + n ≤ length (now bytes)) × (second + n ≤ length (now bytes)) ⌝ }
     requires { ⌜ Apart to second n × (at + n ≤ length (now marks)) × (n ≤ 224) ⌝ }
-    ensures { λ r. ⌜ ChosenUnless low (λ k. eqb (getD (now (marks .entry)) (at + k) 0) mark) to to second n (now (bytes .entry)) (now (bytes .exit)) × (r ≡ total (comparedOf (λ k. eqb (getD (now (marks .entry)) (at + k) 0) mark)) 0 n) ⌝ }
+    ensures { λ r. ⌜ ChosenUnless low (λ k. eqb (getD (now (marks .entry)) (at + k) 0) mark) to to second n
+        (now (bytes .entry)) (now (bytes .exit)) ×
+        (r ≡ total (comparedOf (λ k. eqb (getD (now (marks .entry)) (at + k) 0) mark)) 0 n) ⌝ }
 {
     let mut count: u8 = 0;
     let mut k: usize = 0;
@@ -183,9 +190,12 @@ pub fn block_run(
     second: usize,
     n: usize,
 ) -> usize
-    requires { ⌜ (to + n ≤ length (now bytes)) × (first + n ≤ length (now bytes)) × (second + n ≤ length (now bytes)) ⌝ }
+    requires { ⌜ (to + n ≤ length (now bytes)) × (first + n ≤ length (now bytes)) ×
+        (second + n ≤ length (now bytes)) ⌝ }
     requires { ⌜ Apart to first n × Apart to second n × (at + n ≤ length (now marks)) × (n ≤ 224) ⌝ }
-    ensures { λ r. ⌜ ChosenUnless low (λ k. inOneBlock last near far (getD (now (marks .entry)) (at + k) 0)) to first second n (now (bytes .entry)) (now (bytes .exit)) × (r ≡ total (comparedOf (λ k. inOneBlock last near far (getD (now (marks .entry)) (at + k) 0))) 0 n) ⌝ }
+    ensures { λ r. ⌜ ChosenUnless low (λ k. inOneBlock last near far (getD (now (marks .entry)) (at + k) 0)) to first
+        second n (now (bytes .entry)) (now (bytes .exit)) ×
+        (r ≡ total (comparedOf (λ k. inOneBlock last near far (getD (now (marks .entry)) (at + k) 0))) 0 n) ⌝ }
 {
     let mut count: u8 = 0;
     let mut k: usize = 0;

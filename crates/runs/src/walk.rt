@@ -50,7 +50,8 @@ pub fn edge(
 fn copy_part(g: Grid, bytes: &mut [u8], row: usize, p: Plan, from: usize, to: usize)
     requires { ⌜ Sized g × Planned g row p × (size g + size g ≤ length (now bytes)) ⌝ }
     requires { ⌜ (p .lo ≤ from) × (from ≤ to) × (to ≤ p .hi) ⌝ }
-    ensures { λ _. ⌜ Copied (p .to + (from - p .lo)) (p .first + (from - p .lo)) (to - from) (now (bytes .entry)) (now (bytes .exit)) ⌝ }
+    ensures { λ _. ⌜ Copied (p .to + (from - p .lo)) (p .first + (from - p .lo)) (to - from) (now (bytes .entry))
+        (now (bytes .exit)) ⌝ }
 {
     let at = from - p.lo;
     run::copy_run(bytes, p.to + at, p.first + at, to - from);
@@ -60,7 +61,8 @@ fn copy_part(g: Grid, bytes: &mut [u8], row: usize, p: Plan, from: usize, to: us
 fn choose_part(g: Grid, bytes: &mut [u8], row: usize, p: Plan, from: usize, to: usize) -> usize
     requires { ⌜ Sized g × Planned g row p × (size g + size g ≤ length (now bytes)) ⌝ }
     requires { ⌜ (p .lo ≤ from) × (from ≤ to) × (to ≤ p .hi) ⌝ }
-    ensures { λ r. ⌜ Chosen (g .low) (p .to + (from - p .lo)) (p .first + (from - p .lo)) (p .second + (from - p .lo)) (to - from) (now (bytes .entry)) (now (bytes .exit)) × (r ≡ to - from) ⌝ }
+    ensures { λ r. ⌜ Chosen (g .low) (p .to + (from - p .lo)) (p .first + (from - p .lo)) (p .second + (from - p .lo))
+        (to - from) (now (bytes .entry)) (now (bytes .exit)) × (r ≡ to - from) ⌝ }
 {
     let at = from - p.lo;
     if p.first == p.to {
@@ -89,8 +91,12 @@ fn mark_part(
     mark: u16,
 ) -> usize
     requires { ⌜ Sized g × Planned g row p × (size g + size g ≤ length (now bytes)) ⌝ }
-    requires { ⌜ (p .lo ≤ from) × (from ≤ to) × (to ≤ p .hi) × (to ≤ from + 224) × (place + (to - from) ≤ length (now marks)) ⌝ }
-    ensures { λ r. ⌜ ChosenUnless (g .low) (λ k. eqb (getD (now (marks .entry)) (place + k) 0) mark) (p .to + (from - p .lo)) (p .first + (from - p .lo)) (p .second + (from - p .lo)) (to - from) (now (bytes .entry)) (now (bytes .exit)) × (r ≡ total (comparedOf (λ k. eqb (getD (now (marks .entry)) (place + k) 0) mark)) 0 (to - from)) ⌝ }
+    requires { ⌜ (p .lo ≤ from) × (from ≤ to) × (to ≤ p .hi) × (to ≤ from + 224) ×
+        (place + (to - from) ≤ length (now marks)) ⌝ }
+    ensures { λ r. ⌜ ChosenUnless (g .low) (λ k. eqb (getD (now (marks .entry)) (place + k) 0) mark)
+        (p .to + (from - p .lo)) (p .first + (from - p .lo)) (p .second + (from - p .lo)) (to - from)
+        (now (bytes .entry)) (now (bytes .exit)) ×
+        (r ≡ total (comparedOf (λ k. eqb (getD (now (marks .entry)) (place + k) 0) mark)) 0 (to - from)) ⌝ }
 {
     let at = from - p.lo;
     if p.first == p.to {
@@ -130,8 +136,10 @@ fn side_part(
     p: Plan,
     mid: usize,
 ) -> usize
-    requires { ⌜ Row g (now profile) (now reaches) row step × Planned g row p × (size g + size g ≤ length (now bytes)) ⌝ }
-    requires { ⌜ Marked g (now marks) × (p .lo ≤ mid) × (mid ≤ p .hi) × (p .lo < mid → mid ≤ drift (g .line) step + 31) ⌝ }
+    requires { ⌜ Row g (now profile) (now reaches) row step × Planned g row p ×
+        (size g + size g ≤ length (now bytes)) ⌝ }
+    requires { ⌜ Marked g (now marks) × (p .lo ≤ mid) × (mid ≤ p .hi) ×
+        (p .lo < mid → mid ≤ drift (g .line) step + 31) ⌝ }
     ensures { λ r. ⌜ Walked g row p mid (now (bytes .entry)) (now (bytes .exit)) r ⌝ }
 {
     let drift = step::entry_of(profile, step);
@@ -147,7 +155,8 @@ fn side_part(
     count
 }
 
-// Columns from lo on, up to mid or a little further, that are taken thirty-two at a time: the compiler goes one by one over what is left.
+// Columns from lo on, up to mid or a little further, that are taken thirty-two at a time: the compiler goes one by
+// one over what is left.
 fn rounded(lo: usize, mid: usize) -> usize
     requires { ⌜ (lo ≤ mid) × (mid ≤ 16384) ⌝ }
     ensures { λ r. ⌜ (mid ≤ r) × (r ≤ mid + 31) × (mid ≤ lo → r ≤ lo) ⌝ }
@@ -178,7 +187,8 @@ pub fn walk(
     step: usize,
     p: Plan,
 ) -> usize
-    requires { ⌜ Row g (now profile) (now reaches) row step × Planned g row p × (size g + size g ≤ length (now bytes)) ⌝ }
+    requires { ⌜ Row g (now profile) (now reaches) row step × Planned g row p ×
+        (size g + size g ≤ length (now bytes)) ⌝ }
     requires { ⌜ Marked g (now marks) ⌝ }
     ensures { λ r. ⌜ Walked g row p (p .hi) (now (bytes .entry)) (now (bytes .exit)) r ⌝ }
 {

@@ -1,7 +1,7 @@
--- Whether a ticket hides a pixel. Document 01, 'The ticket': "hidden box: left, top, width, height", and "The hidden boxes are handed
--- on as one lent list of boxes."
--- The boxes are not held to a page: refusal 14 needs the page's sides, and a ticket alone has none. So a box that passes the edge of some
--- page still covers its pixels, and one with a zero side covers none.
+-- Whether a ticket hides a pixel. Document 01, 'The ticket': "hidden box: left, top, width, height", and "The
+-- hidden boxes are handed on as one lent list of boxes." The boxes are not held to a page: refusal 14 needs the
+-- page's sides, and a ticket alone has none. So a box that passes the edge of some page still covers its pixels,
+-- and one with a zero side covers none.
 -- Assumes nothing.
 use mathlib.Core.Path.{_≡_}
 use Prim.Native.Nat.{ℕ}

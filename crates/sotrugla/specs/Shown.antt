@@ -1,7 +1,7 @@
--- A ticket alone, as a row of numbers. Document 01, 'Refusals and what they return': "The ticket alone may be read by a caller, with
--- refusals 1 to 9; it shows 64 box places, zero past its boxes, and at a refusal all fields and boxes are zero."
--- The document does not say in which order the numbers stand, nor what becomes of a buffer that is too short for them: both are
--- decided here.
+-- A ticket alone, as a row of numbers. Document 01, 'Refusals and what they return': "The ticket alone may be read
+-- by a caller, with refusals 1 to 9; it shows 64 box places, zero past its boxes, and at a refusal all fields and
+-- boxes are zero." The document does not say in which order the numbers stand, nor what becomes of a buffer that is
+-- too short for them: both are decided here.
 -- Assumes nothing.
 use mathlib.Core.Path.{_≡_}
 use Prim.Native.Nat.{ℕ, _-_, _≤_}
@@ -38,8 +38,8 @@ numbersOf t = fieldNumbers t (boxNumbers (t .boxes))
 abbrev pub numbersNeeded : ℕ
 numbersNeeded = 264
 
--- 100, and how many numbers are needed, where the buffer of n numbers is too short for them. 100 is ours: the documents'
--- refusals are 1 to 25.
+-- 100, and how many numbers are needed, where the buffer of n numbers is too short for them. 100 is ours: the
+-- documents' refusals are 1 to 25.
 unfoldable pub readOutcome : List ℕ → ℕ → Outcome
 readOutcome ticket n =
     cond (ltb n numbersNeeded) (record { refusal = 100; place = numbersNeeded; work = 0 }) (outcomeOf (reading ticket .answer))

@@ -1,4 +1,5 @@
--- Values of the definitions that hosts meet: the scratch of a page, a ticket shown as numbers, and what a ticket hides. Assumes nothing.
+-- Values of the definitions that hosts meet: the scratch of a page, a ticket shown as numbers, and what a ticket
+-- hides. Assumes nothing.
 use mathlib.Core.Path.{_≡_, refl}
 use Prim.Native.Nat.{ℕ}
 use mathlib.Core.List.{List, [], _∷_, _++_}

@@ -1,6 +1,6 @@
-// The library as C, Rust and Python link it: the proved job on plain numbers and slices.
-// A slice is a pointer and then a length; sizes are 64-bit numbers. No function here has a condition on its callers but that of
-// every slice: its bytes are there, and no two of the buffers overlap.
+// The library as C, Rust and Python link it: the proved job on plain numbers and slices. A slice is a pointer and
+// then a length; sizes are 64-bit numbers. No function here has a condition on its callers but that of every slice:
+// its bytes are there, and no two of the buffers overlap.
 mod shown; // shown.rt: a ticket alone, as a row of numbers
 
 ghost use mathlib.Core.Path.{_≡_};
@@ -14,8 +14,8 @@ use refusal::report;
 use tray::Placements;
 use tray::Spot;
 
-// An answer: refusal is 0 for a finished page or a ticket that was read, else the number of the refusal. 1 to 25 are the
-// documents' (1 to 14 so far); 100 is ours and means a buffer of numbers that is too short.
+// An answer: refusal is 0 for a finished page or a ticket that was read, else the number of the refusal. 1 to 25
+// are the documents' (1 to 14 so far); 100 is ours and means a buffer of numbers that is too short.
 #[repr(C)]
 pub struct Outcome {
     pub refusal: u64,
@@ -74,9 +74,16 @@ pub extern "C" fn sotrugla_run(
     output: &mut [u8],
     scratch: &mut [u8],
 ) -> Outcome
-    ensures answered { λ r. ⌜ r ≡ outcomeOf (answer (now (ticket .entry)) (placementsOf width height «source_offset» «source_stride» «output_offset» «output_stride») (lengths (now (source .entry)) (now (output .entry)) (now (scratch .entry)))) ⌝ }
-    ensures written { λ _. ⌜ now (output .exit) ≡ outputAfter (now (ticket .entry)) (placementsOf width height «source_offset» «source_stride» «output_offset» «output_stride») (now (source .entry)) (now (output .entry)) (now (scratch .entry)) ⌝ }
-    ensures cleared { λ _. ⌜ now (scratch .exit) ≡ scratchAfter (now (ticket .entry)) (placementsOf width height «source_offset» «source_stride» «output_offset» «output_stride») (now (source .entry)) (now (output .entry)) (now (scratch .entry)) ⌝ }
+    ensures answered { λ r. ⌜ r ≡ outcomeOf
+        (answer (now (ticket .entry))
+        (placementsOf width height «source_offset» «source_stride» «output_offset» «output_stride»)
+        (lengths (now (source .entry)) (now (output .entry)) (now (scratch .entry)))) ⌝ }
+    ensures written { λ _. ⌜ now (output .exit) ≡ outputAfter (now (ticket .entry))
+        (placementsOf width height «source_offset» «source_stride» «output_offset» «output_stride»)
+        (now (source .entry)) (now (output .entry)) (now (scratch .entry)) ⌝ }
+    ensures cleared { λ _. ⌜ now (scratch .exit) ≡ scratchAfter (now (ticket .entry))
+        (placementsOf width height «source_offset» «source_stride» «output_offset» «output_stride»)
+        (now (source .entry)) (now (output .entry)) (now (scratch .entry)) ⌝ }
 {
     let at = placements(
         width,
@@ -106,13 +113,13 @@ pub extern "C" fn sotrugla_scratch_needed(width: usize, height: usize) -> usize
     tray::place::scratch_needed(JOB_PAGES, width, height)
 }
 
-// What every function answers that is handed a buffer of numbers too short: its place is the numbers needed, and nothing is
-// written. The documents' own refusals are 1 to 25.
+// What every function answers that is handed a buffer of numbers too short: its place is the numbers needed, and
+// nothing is written. The documents' own refusals are 1 to 25.
 const NUMBERS_TOO_FEW: u64 = 100;
 
-// Reads a ticket alone into a buffer of 264 numbers, which hosts take for signed ones: a negative one stands there as
-// two's complement. A refused ticket shows zeros. A buffer too short is answered 100, its place the numbers needed, and is
-// not written.
+// Reads a ticket alone into a buffer of 264 numbers, which hosts take for signed ones: a negative one stands there
+// as two's complement. A refused ticket shows zeros. A buffer too short is answered 100, its place the numbers
+// needed, and is not written.
 #[no_mangle]
 pub extern "C" fn sotrugla_read_ticket(ticket: &[u8], numbers: &mut [u64]) -> Outcome
     ensures answered { λ r. ⌜ r ≡ readOutcome (now (ticket .entry)) (length (now (numbers .entry))) ⌝ }
@@ -131,8 +138,9 @@ pub extern "C" fn sotrugla_read_ticket(ticket: &[u8], numbers: &mut [u64]) -> Ou
     outcome_of(answer)
 }
 
-// Whether a box of the ticket hides the pixel at column, row: 1 or 0. A refused ticket is shown without boxes and hides nothing. The
-// boxes are not held to a page, whose sides are not known here: a box that a job would refuse (14) hides the pixels that it covers.
+// Whether a box of the ticket hides the pixel at column, row: 1 or 0. A refused ticket is shown without boxes and
+// hides nothing. The boxes are not held to a page, whose sides are not known here: a box that a job would refuse
+// (14) hides the pixels that it covers.
 #[no_mangle]
 pub extern "C" fn sotrugla_is_hidden(ticket: &[u8], column: usize, row: usize) -> u64
     ensures { λ r. ⌜ r ≡ hiddenBy (now (ticket .entry)) column row ⌝ }

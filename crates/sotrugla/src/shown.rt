@@ -1,4 +1,5 @@
-// A ticket as shown, written as a row of numbers: eight for its fields and how many boxes it has, four for each of 64 box places.
+// A ticket as shown, written as a row of numbers: eight for its fields and how many boxes it has, four for each of
+// 64 box places.
 use ticket::HiddenBox;
 use ticket::Ticket;
 ghost use mathlib.Core.Path.{_≡_};

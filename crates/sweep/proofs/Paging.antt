@@ -1,5 +1,5 @@
--- A page of the sweeps: one more row of the backward one, up the rows, of the forward one and of the results, down the rows; and a pass
--- of them all. Assumes nothing.
+-- A page of the sweeps: one more row of the backward one, up the rows, of the forward one and of the results, down
+-- the rows; and a pass of them all. Assumes nothing.
 use mathlib.Core.Path.{_≡_, refl, sym, ap, _∙_, subst}
 use mathlib.Core.List.{List}
 use mathlib.Core.Logic.{⊎-elim, by-cases}

@@ -9,8 +9,8 @@ use Rattle.runs.specs.Runs.{entryAt}
 use Rattle.runs.specs.declared.Grid.{Grid}
 use Rattle.sweep.specs.declared.Within.{Within}
 
--- columns from lo up to hi whose lines entered from the side and leave the page at its bottom: their last step is b steps on, and their
--- windows end past it
+-- columns from lo up to hi whose lines entered from the side and leave the page at its bottom: their last step is b
+-- steps on, and their windows end past it
 pub record AtBottom (g : Grid) (R t b lo hi : ℕ) : Type 0 where
   pub most : hi ≤ g .width
   pub side : hi ≤ drift (g .line) t

@@ -47,7 +47,8 @@ Ready Result g bytes f R x =
     × RowsHold bytes 0 g (fromStartAt g f) (suc R) (windowRows g R)
     × RowsHold bytes (size g) g (toEndAt g f) 0 (g .height)
 
--- a result whose window begins in the line, a number of steps inside a block, with the running extreme from there to its end
+-- a result whose window begins in the line, a number of steps inside a block, with the running extreme from there
+-- to its end
 pub record Across (g : Grid) (bytes : List ℕ) (R t x inside rest : ℕ) : Type 0 where
   pub reached : g .back ≤ number g R x
   pub inside-is : inside ≡ (number g R x - g .back) % g .length
@@ -73,22 +74,24 @@ RowSwept sweep g R old new count = PartDone sweep g R 0 (g .width) old new count
 abbrev pub rowCost : Sweep → Grid → ℕ → ℕ
 rowCost sweep g R = total (costAt sweep g R) 0 (g .width)
 
--- the backward sweep, up the rows: where page f stands in the scratch at a place, in its rows from least up to hi, and the rows from hi
--- on are swept, those from lo up to hi are swept too, everything else is as it was, and the comparisons are counted
+-- the backward sweep, up the rows: where page f stands in the scratch at a place, in its rows from least up to hi,
+-- and the rows from hi on are swept, those from lo up to hi are swept too, everything else is as it was, and the
+-- comparisons are counted
 pub record Raised (base : ℕ) (g : Grid) (least lo hi : ℕ) (old new : List ℕ) (count : ℕ) : Type 0 where
   pub kept : Kept (size g + lo * g .width) (size g + hi * g .width) old new
   pub made : (f : Page) → RowsHold old base g f least hi → RowsHold old (size g) g (toEndAt g f) hi (g .height) → RowsHold new (size g) g (toEndAt g f) lo hi
   pub counted : count ≡ total (rowCost Backward g) lo (hi - lo)
 
--- the forward sweep and close behind it the results, down the rows: the running extremes are made in the rows above `ahead`, and of them
--- the results in the rows above `done`
+-- the forward sweep and close behind it the results, down the rows: the running extremes are made in the rows above
+-- `ahead`, and of them the results in the rows above `done`
 pub record Lowered (g : Grid) (ahead done : ℕ) (old new : List ℕ) (count : ℕ) : Type 0 where
   pub kept : Kept 0 (ahead * g .width) old new
   pub starts : (f : Page) → RowsHold old 0 g f 0 (g .height) → RowsHold new 0 g (fromStartAt g f) done ahead
   pub made : (f : Page) → RowsHold old 0 g f 0 (g .height) → RowsHold old (size g) g (toEndAt g f) 0 (g .height) → RowsHold new 0 g (windowedAt g f) 0 done
   pub counted : count ≡ total (rowCost Forward g) 0 ahead + total (rowCost Result g) 0 done
 
--- how many rows the results stay behind: as many as a window reaches on, and at least one step, as the forward sweep reads one step back
+-- how many rows the results stay behind: as many as a window reaches on, and at least one step, as the forward
+-- sweep reads one step back
 unfoldable pub lag : Grid → ℕ
 lag g = min (max (g .on) 1 * g .period) (g .height)
 

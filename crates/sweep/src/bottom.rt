@@ -1,6 +1,7 @@
 // The results of lines that entered from the side and leave at the page's bottom, where windows end past the line.
-// The lines of a row have their last pixels in one row, next to each other, so they are made by runs: what page B has at the window's first
-// pixel where that is in the block of the line's last, which the line's mark says, else the choice of it and what page A has at the last.
+// The lines of a row have their last pixels in one row, next to each other, so they are made by runs: what page B
+// has at the window's first pixel where that is in the block of the line's last, which the line's mark says, else
+// the choice of it and what page A has at the last.
 ghost use mathlib.Core.Path.{_≡_};
 ghost use Prim.Native.Nat.{suc, _+_, _*_, _-_, _≤_, _<_};
 ghost use lib.ListN.{length};
@@ -31,8 +32,9 @@ fn above(a: usize, b: usize) -> usize
     if b < a { a - b } else { 0 }
 }
 
-// The marks of lines whose windows lie in one block. The last step is last - mark steps into its line's block, or a whole length more where
-// the mark is past it, and the window reaches so many steps up from there. Compared so, no mark is divided or subtracted.
+// The marks of lines whose windows lie in one block. The last step is last - mark steps into its line's block, or a
+// whole length more where the mark is past it, and the window reaches so many steps up from there. Compared so, no
+// mark is divided or subtracted.
 fn within(g: Grid, step: usize, b: usize) -> Within
     requires { ⌜ Sized g × (step ≤ 8192) × (b < g .on) ⌝ }
     ensures { λ r. ⌜ WithinAt g step b r ⌝ }
@@ -48,7 +50,8 @@ fn within(g: Grid, step: usize, b: usize) -> Within
     }
 }
 
-// The columns up to lo, whose windows begin before the line: the line is shorter than a block, so its last pixel has it whole.
+// The columns up to lo, whose windows begin before the line: the line is shorter than a block, so its last pixel
+// has it whole.
 fn early_bottom(
     g: Grid,
     profile: &[usize],
@@ -85,8 +88,10 @@ fn block_part(
     lo: usize,
     hi: usize,
 ) -> usize
-    requires { ⌜ Row g (now profile) (now reaches) row step × (size g + size g ≤ length (now bytes)) × Marked g (now marks) ⌝ }
-    requires { ⌜ AtBottom g row step b lo hi × Begun g row step lo hi × WithinAt g step b w × (lo < hi) × (hi ≤ lo + 224) ⌝ }
+    requires { ⌜ Row g (now profile) (now reaches) row step × (size g + size g ≤ length (now bytes)) × Marked g
+        (now marks) ⌝ }
+    requires { ⌜ AtBottom g row step b lo hi × Begun g row step lo hi × WithinAt g step b w × (lo < hi) ×
+        (hi ≤ lo + 224) ⌝ }
     ensures { λ r. ⌜ PartDone Sweep.Result g row lo hi (now (bytes .entry)) (now (bytes .exit)) r ⌝ }
 {
     let start = step::place_at(g, profile, reaches, row, step, step - g.back, lo);
@@ -120,7 +125,8 @@ fn across_bottom(
     lo: usize,
     hi: usize,
 ) -> usize
-    requires { ⌜ Row g (now profile) (now reaches) row step × (size g + size g ≤ length (now bytes)) × Marked g (now marks) ⌝ }
+    requires { ⌜ Row g (now profile) (now reaches) row step × (size g + size g ≤ length (now bytes)) × Marked g
+        (now marks) ⌝ }
     requires { ⌜ AtBottom g row step b 0 hi × EdgeAt g row step step (g .back) hi lo ⌝ }
     ensures { λ r. ⌜ PartDone Sweep.Result g row lo hi (now (bytes .entry)) (now (bytes .exit)) r ⌝ }
 {
@@ -147,7 +153,8 @@ pub fn bottom_part(
     b: usize,
     hi: usize,
 ) -> usize
-    requires { ⌜ Row g (now profile) (now reaches) row step × (size g + size g ≤ length (now bytes)) × Marked g (now marks) ⌝ }
+    requires { ⌜ Row g (now profile) (now reaches) row step × (size g + size g ≤ length (now bytes)) × Marked g
+        (now marks) ⌝ }
     requires { ⌜ AtBottom g row step b 0 hi ⌝ }
     ensures { λ r. ⌜ PartDone Sweep.Result g row 0 hi (now (bytes .entry)) (now (bytes .exit)) r ⌝ }
 {

@@ -1,5 +1,6 @@
-// One pass over a page in normal form: the backward sweep, and the forward one with the results close behind it, each one loop over the rows.
-// The definitions stand in specs/: Sweeps (what each sweep makes, finds and costs), Bottom (lines that leave at the page's bottom).
+// One pass over a page in normal form: the backward sweep, and the forward one with the results close behind it,
+// each one loop over the rows. The definitions stand in specs/: Sweeps (what each sweep makes, finds and costs),
+// Bottom (lines that leave at the page's bottom).
 //
 //     rows    the sweeps, and the pass
 //     row     one row of each sweep
@@ -18,8 +19,8 @@ pub struct Made {
     pub count: usize,
 }
 
-// The marks of lines whose windows, cut at the line's last step, lie in one block: of the marks up to `last` those below `near`, of the
-// others those below `far`.
+// The marks of lines whose windows, cut at the line's last step, lie in one block: of the marks up to `last` those
+// below `near`, of the others those below `far`.
 pub struct Within {
     pub last: u16,
     pub near: u16,

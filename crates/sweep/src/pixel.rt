@@ -1,5 +1,5 @@
-// Results at the page's far edge, where the window ends past its line: pixel by pixel, as lines that entered from the side and leave before the
-// page's bottom each have their own next block.
+// Results at the page's far edge, where the window ends past its line: pixel by pixel, as lines that entered from
+// the side and leave before the page's bottom each have their own next block.
 ghost use mathlib.Core.Path.{_≡_};
 ghost use Prim.Native.Nat.{_+_, _*_, _<_, _≤_};
 ghost use lib.ListN.{length, getD};
@@ -74,16 +74,19 @@ fn early_at(
     step: usize,
     x: usize,
 ) -> Made
-    requires { ⌜ Pixel g (now profile) (now reaches) row step x × (size g + size g ≤ length (now bytes)) × (OnPage g (startRow g row) (lineName g row x) (step + g .on) → ⊥) ⌝ }
+    requires { ⌜ Pixel g (now profile) (now reaches) row step x × (size g + size g ≤ length (now bytes)) ×
+        (OnPage g (startRow g row) (lineName g row x) (step + g .on) → ⊥) ⌝ }
     requires { ⌜ number g row x < g .back ⌝ }
-    ensures { λ r. ⌜ ((f : Page) → Ready Sweep.Result g (now (bytes .entry)) f row x → r .value ≡ windowedAt g f row x) × (r .count ≡ resultingAt g row x) ⌝ }
+    ensures { λ r. ⌜ ((f : Page) → Ready Sweep.Result g (now (bytes .entry)) f row x → r .value ≡ windowedAt g f row
+        x) × (r .count ≡ resultingAt g row x) ⌝ }
 {
     let entry = step::entry_at(g, profile, reaches, row, step, x);
     let first = step::spot_at(g, profile, reaches, row, step, x, entry);
     as_is(value_b(g, bytes, first))
 }
 
-// The result where the window begins in the line, at a step `inside` its block: the rest of that block, and the next one, if the line has it.
+// The result where the window begins in the line, at a step `inside` its block: the rest of that block, and the
+// next one, if the line has it.
 fn across_at(
     g: Grid,
     profile: &[usize],
@@ -95,9 +98,11 @@ fn across_at(
     inside: usize,
     rest: u8,
 ) -> Made
-    requires { ⌜ Pixel g (now profile) (now reaches) row step x × (size g + size g ≤ length (now bytes)) × (OnPage g (startRow g row) (lineName g row x) (step + g .on) → ⊥) ⌝ }
+    requires { ⌜ Pixel g (now profile) (now reaches) row step x × (size g + size g ≤ length (now bytes)) ×
+        (OnPage g (startRow g row) (lineName g row x) (step + g .on) → ⊥) ⌝ }
     requires { ⌜ Across g (now bytes) row step x inside rest ⌝ }
-    ensures { λ r. ⌜ ((f : Page) → Ready Sweep.Result g (now (bytes .entry)) f row x → r .value ≡ windowedAt g f row x) × (r .count ≡ resultingAt g row x) ⌝ }
+    ensures { λ r. ⌜ ((f : Page) → Ready Sweep.Result g (now (bytes .entry)) f row x → r .value ≡ windowedAt g f row
+        x) × (r .count ≡ resultingAt g row x) ⌝ }
 {
     let next = step::spot_at(
         g,
@@ -125,9 +130,11 @@ fn reached_at(
     x: usize,
     from: usize,
 ) -> Made
-    requires { ⌜ Pixel g (now profile) (now reaches) row step x × (size g + size g ≤ length (now bytes)) × (OnPage g (startRow g row) (lineName g row x) (step + g .on) → ⊥) ⌝ }
+    requires { ⌜ Pixel g (now profile) (now reaches) row step x × (size g + size g ≤ length (now bytes)) ×
+        (OnPage g (startRow g row) (lineName g row x) (step + g .on) → ⊥) ⌝ }
     requires { ⌜ (from ≡ number g row x) × (g .back ≤ from) ⌝ }
-    ensures { λ r. ⌜ ((f : Page) → Ready Sweep.Result g (now (bytes .entry)) f row x → r .value ≡ windowedAt g f row x) × (r .count ≡ resultingAt g row x) ⌝ }
+    ensures { λ r. ⌜ ((f : Page) → Ready Sweep.Result g (now (bytes .entry)) f row x → r .value ≡ windowedAt g f row
+        x) × (r .count ≡ resultingAt g row x) ⌝ }
 {
     let start = step::spot_at(g, profile, reaches, row, step, x, step - g.back);
     let rest = value_b(g, bytes, start);
@@ -148,8 +155,10 @@ pub fn rest_at(
     step: usize,
     x: usize,
 ) -> Made
-    requires { ⌜ Pixel g (now profile) (now reaches) row step x × (size g + size g ≤ length (now bytes)) × (OnPage g (startRow g row) (lineName g row x) (step + g .on) → ⊥) ⌝ }
-    ensures { λ r. ⌜ ((f : Page) → Ready Sweep.Result g (now (bytes .entry)) f row x → r .value ≡ windowedAt g f row x) × (r .count ≡ resultingAt g row x) ⌝ }
+    requires { ⌜ Pixel g (now profile) (now reaches) row step x × (size g + size g ≤ length (now bytes)) ×
+        (OnPage g (startRow g row) (lineName g row x) (step + g .on) → ⊥) ⌝ }
+    ensures { λ r. ⌜ ((f : Page) → Ready Sweep.Result g (now (bytes .entry)) f row x → r .value ≡ windowedAt g f row
+        x) × (r .count ≡ resultingAt g row x) ⌝ }
 {
     let number = number_at(g, profile, reaches, row, step, x);
     if number < g.back {

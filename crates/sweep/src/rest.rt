@@ -1,7 +1,7 @@
-// The results whose windows end past their line: the rest of a row, from the far edge on.
-// Lines that entered in the page's first row are all at the same step of their blocks, so they are made by runs. Of those that entered from the
-// side, the ones that leave at the page's bottom are too (bottom); the ones that leave before each have their own next block and last row, and
-// go one by one.
+// The results whose windows end past their line: the rest of a row, from the far edge on. Lines that entered in the
+// page's first row are all at the same step of their blocks, so they are made by runs. Of those that entered from
+// the side, the ones that leave at the page's bottom are too (bottom); the ones that leave before each have their
+// own next block and last row, and go one by one.
 ghost use mathlib.Core.Path.{_≡_};
 ghost use Prim.Native.Nat.{_+_, _*_, _-_, _%_, _≤_, _<_, max};
 ghost use lib.ListN.{length};
@@ -28,7 +28,8 @@ fn step_edge(
     lo: usize,
     to: usize,
 ) -> usize
-    requires { ⌜ Row g (now profile) (now reaches) row step × (to ≤ 32768) × (lo ≤ g .width) × (drift (g .line) step ≤ lo) ⌝ }
+    requires { ⌜ Row g (now profile) (now reaches) row step × (to ≤ 32768) × (lo ≤ g .width) ×
+        (drift (g .line) step ≤ lo) ⌝ }
     ensures { λ r. ⌜ StepEdge g row step lo to r ⌝ }
 {
     let target = row - step * g.period + to * g.period;
@@ -59,7 +60,8 @@ fn copy_from(
 )
     requires { ⌜ Row g (now profile) (now reaches) row step × (size g + size g ≤ length (now bytes)) ⌝ }
     requires { ⌜ (lo ≤ g .width) × (drift (g .line) step ≤ lo) × (to ≤ step) ⌝ }
-    ensures { λ _. ⌜ Copied (row * g .width + lo) (size g + placeAt g row step to lo) (g .width - lo) (now (bytes .entry)) (now (bytes .exit)) ⌝ }
+    ensures { λ _. ⌜ Copied (row * g .width + lo) (size g + placeAt g row step to lo) (g .width - lo)
+        (now (bytes .entry)) (now (bytes .exit)) ⌝ }
 {
     let from = g.height * g.width + step::place_at(g, profile, reaches, row, step, to, lo);
     run::copy_run(bytes, row * g.width + lo, from, g.width - lo);
@@ -80,7 +82,8 @@ fn choose_from(
 ) -> usize
     requires { ⌜ Row g (now profile) (now reaches) row step × (size g + size g ≤ length (now bytes)) ⌝ }
     requires { ⌜ (drift (g .line) step ≤ lo) × (to ≤ step) × (next ≤ 32768) × StepEdge g row step lo next hi ⌝ }
-    ensures { λ r. ⌜ Chosen (g .low) (row * g .width + lo) (size g + placeAt g row step to lo) (size g + placeAt g row step next lo) (hi - lo) (now (bytes .entry)) (now (bytes .exit)) × (r ≡ hi - lo) ⌝ }
+    ensures { λ r. ⌜ Chosen (g .low) (row * g .width + lo) (size g + placeAt g row step to lo)
+        (size g + placeAt g row step next lo) (hi - lo) (now (bytes .entry)) (now (bytes .exit)) × (r ≡ hi - lo) ⌝ }
 {
     if hi <= lo {
         return 0;
@@ -103,7 +106,8 @@ fn across_top(
     inside: usize,
 ) -> usize
     requires { ⌜ Row g (now profile) (now reaches) row step × (size g + size g ≤ length (now bytes)) ⌝ }
-    requires { ⌜ PastLine g row step mid × (mid < g .width) × (g .back ≤ step) × (inside ≡ (step - g .back) % g .length) × (0 < inside) ⌝ }
+    requires { ⌜ PastLine g row step mid × (mid < g .width) × (g .back ≤ step) ×
+        (inside ≡ (step - g .back) % g .length) × (0 < inside) ⌝ }
     ensures { λ r. ⌜ PartDone Sweep.Result g row mid (g .width) (now (bytes .entry)) (now (bytes .exit)) r ⌝ }
 {
     let next = step - g.back + (g.length - inside);
@@ -181,8 +185,8 @@ fn each_part(
     count
 }
 
-// The lines that entered from the side. Where windows reach below the page, all of them end past their line, and the first columns are those
-// whose lines leave at the bottom.
+// The lines that entered from the side. Where windows reach below the page, all of them end past their line, and
+// the first columns are those whose lines leave at the bottom.
 fn rest_side(
     g: Grid,
     profile: &[usize],
@@ -194,8 +198,10 @@ fn rest_side(
     hi: usize,
     mid: usize,
 ) -> usize
-    requires { ⌜ Row g (now profile) (now reaches) row step × (size g + size g ≤ length (now bytes)) × Marked g (now marks) ⌝ }
-    requires { ⌜ FarEdge g row step (g .on) hi × (hi ≤ mid) × (mid ≤ g .width) × (mid ≤ max hi (drift (g .line) step)) ⌝ }
+    requires { ⌜ Row g (now profile) (now reaches) row step × (size g + size g ≤ length (now bytes)) × Marked g
+        (now marks) ⌝ }
+    requires { ⌜ FarEdge g row step (g .on) hi × (hi ≤ mid) × (mid ≤ g .width) ×
+        (mid ≤ max hi (drift (g .line) step)) ⌝ }
     ensures { λ r. ⌜ PartDone Sweep.Result g row hi mid (now (bytes .entry)) (now (bytes .exit)) r ⌝ }
 {
     let b = bottom::steps_left(g, row);
@@ -219,7 +225,8 @@ pub fn rest_part(
     step: usize,
     hi: usize,
 ) -> usize
-    requires { ⌜ Row g (now profile) (now reaches) row step × (size g + size g ≤ length (now bytes)) × Marked g (now marks) ⌝ }
+    requires { ⌜ Row g (now profile) (now reaches) row step × (size g + size g ≤ length (now bytes)) × Marked g
+        (now marks) ⌝ }
     requires { ⌜ FarEdge g row step (g .on) hi ⌝ }
     ensures { λ r. ⌜ PartDone Sweep.Result g row hi (g .width) (now (bytes .entry)) (now (bytes .exit)) r ⌝ }
 {

@@ -1,4 +1,5 @@
-// One row of each sweep, in parts: what has nothing to be compared with, what is made by a plan, and what goes pixel by pixel.
+// One row of each sweep, in parts: what has nothing to be compared with, what is made by a plan, and what goes
+// pixel by pixel.
 ghost use mathlib.Core.Path.{_≡_};
 ghost use Prim.Native.Nat.{_+_, _≤_, _<_, min};
 ghost use lib.ListN.{length};
@@ -23,7 +24,8 @@ pub fn forward_row(
     row: usize,
     step: usize,
 ) -> usize
-    requires { ⌜ Row g (now profile) (now reaches) row step × (size g + size g ≤ length (now bytes)) × Marked g (now marks) ⌝ }
+    requires { ⌜ Row g (now profile) (now reaches) row step × (size g + size g ≤ length (now bytes)) × Marked g
+        (now marks) ⌝ }
     ensures { λ r. ⌜ RowSwept Sweep.Forward g row (now (bytes .entry)) (now (bytes .exit)) r ⌝ }
 {
     if step == 0 {
@@ -44,7 +46,8 @@ fn backward_part(
     step: usize,
     hi: usize,
 ) -> usize
-    requires { ⌜ Row g (now profile) (now reaches) row step × (size g + size g ≤ length (now bytes)) × Marked g (now marks) ⌝ }
+    requires { ⌜ Row g (now profile) (now reaches) row step × (size g + size g ≤ length (now bytes)) × Marked g
+        (now marks) ⌝ }
     requires { ⌜ FarEdge g row step 1 hi ⌝ }
     ensures { λ r. ⌜ PartDone Sweep.Backward g row 0 hi (now (bytes .entry)) (now (bytes .exit)) r ⌝ }
 {
@@ -65,7 +68,8 @@ pub fn backward_row(
     row: usize,
     step: usize,
 ) -> usize
-    requires { ⌜ Row g (now profile) (now reaches) row step × (size g + size g ≤ length (now bytes)) × Marked g (now marks) ⌝ }
+    requires { ⌜ Row g (now profile) (now reaches) row step × (size g + size g ≤ length (now bytes)) × Marked g
+        (now marks) ⌝ }
     ensures { λ r. ⌜ RowSwept Sweep.Backward g row (now (bytes .entry)) (now (bytes .exit)) r ⌝ }
 {
     let hi = plans::far_edge(g, profile, reaches, row, step, 1);
@@ -106,7 +110,8 @@ fn across_part(
     lo: usize,
     hi: usize,
 ) -> usize
-    requires { ⌜ Row g (now profile) (now reaches) row step × (size g + size g ≤ length (now bytes)) × Marked g (now marks) ⌝ }
+    requires { ⌜ Row g (now profile) (now reaches) row step × (size g + size g ≤ length (now bytes)) × Marked g
+        (now marks) ⌝ }
     requires { ⌜ EdgeAt g row step step (g .back) (g .width) lo × FarEdge g row step (g .on) hi ⌝ }
     ensures { λ r. ⌜ PartDone Sweep.Result g row (min lo hi) hi (now (bytes .entry)) (now (bytes .exit)) r ⌝ }
 {
@@ -126,7 +131,8 @@ pub fn result_row(
     row: usize,
     step: usize,
 ) -> usize
-    requires { ⌜ Row g (now profile) (now reaches) row step × (size g + size g ≤ length (now bytes)) × Marked g (now marks) ⌝ }
+    requires { ⌜ Row g (now profile) (now reaches) row step × (size g + size g ≤ length (now bytes)) × Marked g
+        (now marks) ⌝ }
     ensures { λ r. ⌜ RowSwept Sweep.Result g row (now (bytes .entry)) (now (bytes .exit)) r ⌝ }
 {
     let lo = walk::edge(g, profile, reaches, row, step, step, g.back, g.width);

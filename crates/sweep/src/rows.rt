@@ -23,7 +23,8 @@ fn sweep_row(
     bytes: &mut [u8],
     row: usize,
 ) -> usize
-    requires { ⌜ Sized g × Tabled g (now profile) (now reaches) × (row < g .height) × (size g + size g ≤ length (now bytes)) × Marked g (now marks) ⌝ }
+    requires { ⌜ Sized g × Tabled g (now profile) (now reaches) × (row < g .height) ×
+        (size g + size g ≤ length (now bytes)) × Marked g (now marks) ⌝ }
     ensures { λ r. ⌜ RowSwept sweep g row (now (bytes .entry)) (now (bytes .exit)) r ⌝ }
 {
     let step = row / g.period;
@@ -37,7 +38,8 @@ fn sweep_row(
 // How many rows are copied at once for the backward sweep: few enough to stay in the cache while it goes up over them.
 const BAND: usize = 32;
 
-// A band of rows of the backward sweep, from one up to another. They are copied from page A first: memory is read faster down the rows.
+// A band of rows of the backward sweep, from one up to another. They are copied from page A first: memory is read
+// faster down the rows.
 fn backward_band(
     g: Grid,
     profile: &[usize],
@@ -47,7 +49,8 @@ fn backward_band(
     from: usize,
     to: usize,
 ) -> usize
-    requires { ⌜ Sized g × Tabled g (now profile) (now reaches) × (size g + size g ≤ length (now bytes)) × Marked g (now marks) ⌝ }
+    requires { ⌜ Sized g × Tabled g (now profile) (now reaches) × (size g + size g ≤ length (now bytes)) × Marked g
+        (now marks) ⌝ }
     requires { ⌜ (from ≤ to) × (to ≤ g .height) ⌝ }
     ensures { λ r. ⌜ Raised 0 g from from to (now (bytes .entry)) (now (bytes .exit)) r ⌝ }
 {
@@ -69,7 +72,8 @@ fn backward_band(
 
 // The backward sweep, up the rows: page B becomes the running extremes to the blocks' ends of page A.
 fn backward(g: Grid, profile: &[usize], reaches: &[usize], marks: &[u16], bytes: &mut [u8]) -> usize
-    requires { ⌜ Sized g × Tabled g (now profile) (now reaches) × (size g + size g ≤ length (now bytes)) × Marked g (now marks) ⌝ }
+    requires { ⌜ Sized g × Tabled g (now profile) (now reaches) × (size g + size g ≤ length (now bytes)) × Marked g
+        (now marks) ⌝ }
     ensures { λ r. ⌜ Raised 0 g 0 0 (g .height) (now (bytes .entry)) (now (bytes .exit)) r ⌝ }
 {
     let mut count: usize = 0;
@@ -91,7 +95,8 @@ fn forward_next(
     bytes: &mut [u8],
     row: usize,
 ) -> usize
-    requires { ⌜ Sized g × Tabled g (now profile) (now reaches) × (size g + size g ≤ length (now bytes)) × Marked g (now marks) ⌝ }
+    requires { ⌜ Sized g × Tabled g (now profile) (now reaches) × (size g + size g ≤ length (now bytes)) × Marked g
+        (now marks) ⌝ }
     ensures { λ r. ⌜ SweptIf (row < g .height) Sweep.Forward g row (now (bytes .entry)) (now (bytes .exit)) r ⌝ }
 {
     if g.height <= row {
@@ -110,7 +115,8 @@ fn result_behind(
     row: usize,
     behind: usize,
 ) -> usize
-    requires { ⌜ Sized g × Tabled g (now profile) (now reaches) × (size g + size g ≤ length (now bytes)) × Marked g (now marks) ⌝ }
+    requires { ⌜ Sized g × Tabled g (now profile) (now reaches) × (size g + size g ≤ length (now bytes)) × Marked g
+        (now marks) ⌝ }
     requires { ⌜ row < g .height + behind ⌝ }
     ensures { λ r. ⌜ SweptIf (behind ≤ row) Sweep.Result g (row - behind) (now (bytes .entry)) (now (bytes .exit)) r ⌝ }
 {
@@ -135,10 +141,11 @@ fn lag_of(g: Grid) -> usize
     walk::nearer(walk::later(g.on, 1) * g.period, g.height)
 }
 
-// The forward sweep, and close behind it the results, while the rows they read are still in the cache: page A becomes the extremes over the
-// windows.
+// The forward sweep, and close behind it the results, while the rows they read are still in the cache: page A
+// becomes the extremes over the windows.
 fn forward(g: Grid, profile: &[usize], reaches: &[usize], marks: &[u16], bytes: &mut [u8]) -> usize
-    requires { ⌜ Sized g × Tabled g (now profile) (now reaches) × (size g + size g ≤ length (now bytes)) × Marked g (now marks) ⌝ }
+    requires { ⌜ Sized g × Tabled g (now profile) (now reaches) × (size g + size g ≤ length (now bytes)) × Marked g
+        (now marks) ⌝ }
     ensures { λ r. ⌜ Lowered g (g .height) (g .height) (now (bytes .entry)) (now (bytes .exit)) r ⌝ }
 {
     let behind = lag_of(g);
@@ -162,7 +169,8 @@ fn sweep_all(
     marks: &[u16],
     bytes: &mut [u8],
 ) -> usize
-    requires { ⌜ Sized g × Tabled g (now profile) (now reaches) × (size g + size g ≤ length (now bytes)) × Marked g (now marks) ⌝ }
+    requires { ⌜ Sized g × Tabled g (now profile) (now reaches) × (size g + size g ≤ length (now bytes)) × Marked g
+        (now marks) ⌝ }
     ensures { λ r. ⌜ Passed g (now (bytes .entry)) (now (bytes .exit)) r ⌝ }
 {
     let first = backward(g, profile, reaches, marks, bytes);

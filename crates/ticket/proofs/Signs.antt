@@ -10,6 +10,7 @@ use mir.Syntax.{w32}
 use lib.Signed.{mag}
 use mir.Val.{toZ, ofZ}
 use mir.ValLaws.{toZ-pos, toZ-ofZ}
+use Rattle.geometry.specs.Laws.{shallow-forward, shallow-backward, steep-forward, steep-backward}
 use Rattle.geometry.specs.Vector.{shallow, steep}
 use Rattle.ticket.specs.Fields.{signed16}
 
@@ -32,17 +33,13 @@ kept {z} e h = toZ-ofZ w32 z (record { sfits = h }) ∙ e
 
 -- the major component tells the sign, and the minor one's size is at most it or below it
 pub shallow-small : (x : ℕ) (dy : ℤ) → x < 32768 → shallow (signed16 x) dy ≡ (leb 1 x && leb (natAbs dy) x)
-unfolding shallow
-shallow-small x dy h = rw (signed-small x h)
+shallow-small x dy h = ap (λ (z : ℤ). shallow z dy) (signed-small x h) ∙ shallow-forward x dy
 
 pub shallow-large : (x : ℕ) (dy : ℤ) → 32768 ≤ x → shallow (signed16 x) dy ≡ false
-unfolding shallow
-shallow-large x dy h = rw (signed-large x h)
+shallow-large x dy h = ap (λ (z : ℤ). shallow z dy) (signed-large x h) ∙ shallow-backward (65535 - x) dy
 
 pub steep-small : (dx : ℤ) (y : ℕ) → y < 32768 → steep dx (signed16 y) ≡ (leb 1 y && ltb (natAbs dx) y)
-unfolding steep
-steep-small dx y h = rw (signed-small y h)
+steep-small dx y h = ap (steep dx) (signed-small y h) ∙ steep-forward dx y
 
 pub steep-large : (dx : ℤ) (y : ℕ) → 32768 ≤ y → steep dx (signed16 y) ≡ false
-unfolding steep
-steep-large dx y h = rw (signed-large y h)
+steep-large dx y h = ap (steep dx) (signed-large y h) ∙ steep-backward dx (65535 - y)

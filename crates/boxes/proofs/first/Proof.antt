@@ -1,5 +1,6 @@
--- `boxes::first` meets its contract: a walk of its MIR, by hand. All that it knows of `answers` is that it meets its contract.
--- The loop's invariant is that no box before k answers. A turn looks into the slice for box k, and shuts it again before the call.
+-- `boxes::first` meets its contract: a walk of its MIR, by hand. All that it knows of `answers` is that it meets
+-- its contract. The loop's invariant is that no box before k answers. A turn looks into the slice for box k, and
+-- shuts it again before the call.
 -- Assumes nothing.
 use mathlib.Core.Path.{_≡_, refl, sym, ap, _∙_}
 use mathlib.Core.Bool.{Bool, true, false, not}
@@ -243,7 +244,8 @@ module _ {M : Type 1} (𝓤 : URA M) (H : Heap 𝓤) (A : Atoms 𝓤) (W : Given
         move ! (18 ∷ 19 ∷ []) $
         looks-slice ! tt T.the-row (Is T.the-row) (shows 𝓤 H A T.the-row) box-vals (LL.tells T.the-type T′.the-laws) (LL.copy T.the-type T′.the-copy 𝓤 H A W) ys b o (λ q′.
         elem-out ! T.the-row (Is T.the-row) (shows 𝓤 H A T.the-row) box-vals (LL.tells T.the-type T′.the-laws) q′ ys (k .0) noBox b o (ltb→lt (k .0) (length ys) less) (λ is.
-        -- [box k; what it owns; the others; what shuts; the fractured borrow; the locals from 5 on; res; the slice's facts]
+        -- [box k; what it owns; the others; what shuts; the fractured borrow; the locals from 5 on; res; the
+        -- slice's facts]
         assigns ! (of-opd ! (load ! (from ! (hop ! (look ! 7 refl) (stop !))) (look-raw ! 0 refl))) (from ! (stop !)) (init ! 5 refl (LL.lawful T.the-type T′.the-laws 𝓤 H A W .typed (box (k .0)) _ is .0)) $
         elem-back ! T.the-row q′ ys (k .0) noBox (box-vals (box (k .0))) b o (ltb→lt (k .0) (length ys) less) $ shuts-slice ! tt T.the-row q′ ys b o $
         -- [the token; the fractured borrow; the locals from 2 on; res; the slice's facts]

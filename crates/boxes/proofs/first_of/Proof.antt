@@ -1,6 +1,6 @@
--- `boxes::first_of` meets its contract: a walk of its MIR, by hand. All that it knows of `first` is that it meets its contract.
--- The array is written to memory whole and lent for a lifetime that is made for the call, and its front is taken of the loan. Once the
--- lifetime has ended, the array is whole again.
+-- `boxes::first_of` meets its contract: a walk of its MIR, by hand. All that it knows of `first` is that it meets
+-- its contract. The array is written to memory whole and lent for a lifetime that is made for the call, and its
+-- front is taken of the loan. Once the lifetime has ended, the array is whole again.
 -- Assumes nothing.
 use mathlib.Core.Path.{_≡_, refl, sym, ap, _∙_, subst}
 use Prim.Native.Nat.{ℕ, _≤_, _<_, _^_}

@@ -1,6 +1,7 @@
--- `hiding::hide` meets its contract: a walk of its MIR, by hand. All that it knows of `hide_one` is that it meets its contract.
--- The loop's invariant is that the boxes before k are painted. A turn looks into the slice for box k and shuts it again, and lends the
--- page for a lifetime that is made for the call; once that has ended, the page is back at what `hide_one` left.
+-- `hiding::hide` meets its contract: a walk of its MIR, by hand. All that it knows of `hide_one` is that it meets
+-- its contract. The loop's invariant is that the boxes before k are painted. A turn looks into the slice for box k
+-- and shuts it again, and lends the page for a lifetime that is made for the call; once that has ended, the page is
+-- back at what `hide_one` left.
 -- Assumes nothing.
 use mathlib.Core.Path.{_≡_, refl, sym, ap, _∙_, subst}
 use Prim.Native.Nat.{ℕ, _+_, _-_, _*_, _≤_, _<_, _^_, zero-le}
@@ -289,7 +290,8 @@ module _ {M : Type 1} (𝓤 : URA M) (H : Heap 𝓤) (A : Atoms 𝓤) (W : Given
         move ! (26 ∷ 27 ∷ []) $
         looks-slice ! tt T.the-row (Is T.the-row) (shows 𝓤 H A T.the-row) box-vals (LL.tells T.the-type T′.the-laws) (LL.copy T.the-type T′.the-copy 𝓤 H A W) ys b o (λ r.
         elem-out ! T.the-row (Is T.the-row) (shows 𝓤 H A T.the-row) box-vals (LL.tells T.the-type T′.the-laws) r ys (s .k) noBox b o (ltb→lt (s .k) (length ys) less) (λ is.
-        -- [box k; what it owns; the others; what shuts; the fractured borrow; the locals from 5 on; the page and its token; res; the slice's facts]
+        -- [box k; what it owns; the others; what shuts; the fractured borrow; the locals from 5 on; the page and
+        -- its token; res; the slice's facts]
         assigns ! (of-opd ! (load ! (from ! (hop ! (look ! 11 refl) (stop !))) (look-raw ! 0 refl))) (from ! (stop !)) (init ! 9 refl (LL.lawful T.the-type T′.the-laws 𝓤 H A W .typed (box (s .k)) _ is .0)) $
         elem-back ! T.the-row r ys (s .k) noBox (box-vals (box (s .k))) b o (ltb→lt (s .k) (length ys) less) $ shuts-slice ! tt T.the-row r ys b o $
         -- [the token; the fractured borrow; the locals from 2 on; the page at 28; its token; res; the slice's facts]
@@ -304,7 +306,8 @@ module _ {M : Type 1} (𝓤 : URA M) (H : Heap 𝓤) (A : Atoms 𝓤) (W : Given
         (and-then ! (load ! (from ! (stop !)) (look ! 8 refl)) (and-then ! (load ! (from ! (stop !)) (look ! 24 refl)) (and-then ! (load ! (from ! (stop !)) (look ! 4 refl)) (and-then ! (load ! (from ! (stop !)) (look ! 20 refl)) (no-more !))))) (λ v.
         use1 W (later (some (λ (ws : List ℕ). given ((v ≡ vunit) × BoxesPainted (box (s .k) ∷ []) lay value (s .zs) ws) (‵ (flft (α ∷ []) fullShare) ⊛ ‵ (finally u8 ε ws)))))
         (gives s (ltb→lt (s .k) (length ys) less) is α ε v) $ await ! tt $ pick ! (λ ws. learn ! (λ e. split ! $
-        -- [the lifetime's token; what the page holds last; what is kept; the token; the fractured borrow; the locals from 5 on; ..]
+        -- [the lifetime's token; what the page holds last; what is kept; the token; the fractured borrow; the
+        -- locals from 5 on; ..]
         land ! (from ! (stop !)) (init ! 13 refl (subst (λ (y : Val). T (hasTy tyUnit y) × WT y) (sym (e .0)) (tt, tt))) $
         -- the lifetime is ended, and the page is back
         lft-end ! tt $ move ! (0 ∷ 2 ∷ 1 ∷ []) $
@@ -334,7 +337,8 @@ module _ {M : Type 1} (𝓤 : URA M) (H : Heap 𝓤) (A : Atoms 𝓤) (W : Given
       -- [res; the fractured borrow; the slice's facts; the other parameters; the locals from 4 on; the tokens]
       move ! (3 ∷ []) $ fsplit ! $ drop ! $ fsplit ! $ use1 W (Has page) (page-in d p 𝓤 H A W (named 1) κ′ δ page (page-val ∷ [])) $
       move ! (31 ∷ []) $ split ! $ move ! (1 ∷ []) $ split ! $
-      -- [the page's token; true; the boxes' token; the page; the value; res; the fractured borrow; the slice's facts; the locals from 8 on]
+      -- [the page's token; true; the boxes' token; the page; the value; res; the fractured borrow; the slice's
+      -- facts; the locals from 8 on]
       keep ! (8 ∷ 9 ∷ 10 ∷ 11 ∷ 12 ∷ 13 ∷ 14 ∷ 15 ∷ 16 ∷ 17 ∷ 18 ∷ 19 ∷ 20 ∷ 21 ∷ 22 ∷ 23 ∷ 24 ∷ 25 ∷ 26 ∷ 27 ∷ 28 ∷ 29 ∷ 30 ∷ 31 ∷ 32 ∷ 33 ∷ 6 ∷ 2 ∷ 3 ∷ 0 ∷ 5 ∷ 7 ∷ []) $
       first-part ! $ blocks ! $ loops ! 𝓣 Nearer Nearer-wf (At 𝓣 known l₀ l₁ l₂ l₃ l₄ l₅ l₆ l₇ l₈ l₉ l₁₀ l₁₁ l₁₂) (turns 𝓣 known l₀ l₁ l₂ l₃ l₄ l₅ l₆ l₇ l₈ l₉ l₁₀ l₁₁ l₁₂)
       (record { k = 0; zs = page; within = zero-le; painted = painted-none lay value page }))))))))))))))

@@ -1,6 +1,7 @@
--- `hiding::hide_first` meets its contract: a walk of its MIR, by hand. All that it knows of `hide` is that it meets its contract.
--- The array is written to memory whole and lent, its front is taken of the loan, and the page is lent too, each for a lifetime that is
--- made for the call. Once they have ended, the array is whole again and the page is back at what `hide` left.
+-- `hiding::hide_first` meets its contract: a walk of its MIR, by hand. All that it knows of `hide` is that it meets
+-- its contract. The array is written to memory whole and lent, its front is taken of the loan, and the page is lent
+-- too, each for a lifetime that is made for the call. Once they have ended, the array is whole again and the page
+-- is back at what `hide` left.
 -- Assumes nothing.
 use mathlib.Core.Path.{_≡_, refl, sym, ap, subst}
 use Prim.Native.Nat.{ℕ, _≤_, _<_, _^_}
@@ -238,13 +239,15 @@ module _ {M : Type 1} (𝓤 : URA M) (H : Heap 𝓤) (A : Atoms 𝓤) (W : Given
         use1 W (later (some (λ (γ : GName). ‵ (Lent α l₆ γ xs (length xs)) ⊛ ‵ (flent (α ∷ []) (arr-parts (shares T.the-row) (length xs) .part fullShare xs l₆ 0)))))
         (lends-shr-slice 𝓤 H A W T.the-row (named 0) (α ∷ []) fullShare xs l₆ 0 room) $ await ! tt $ pick ! (λ γ. split ! $ move ! (0 ∷ 2 ∷ []) $
         use2 W (later (some (λ (γ′ : GName). ‵ (Lent α l₆ γ′ boxes count) ⊛ ‵ (flft (α ∷ []) fullShare)))) (front-of α l₆ γ) $ await ! tt $ pick ! (λ γ′. split ! $
-        -- [the front; its token; `lent`; the page; the page's token; the locals from 5 on]: the page is lent for another
+        -- [the front; its token; `lent`; the page; the page's token; the locals from 5 on]: the page is lent for
+        -- another
         lft-new ! tt (λ β. move ! (4 ∷ 5 ∷ []) $
         use2 W (later (some (λ (ε : GName). ‵ (Page d p (β ∷ []) ε page) ⊛ ‵ (keptF u8 κ q (β ∷ []) δ ε page d p)))) (sl-relend 𝓤 H A W u8 κ q (β ∷ []) d p δ page) $ await ! tt $ pick ! (λ ε. split ! $
         -- [the page; what is kept; its new token; the front; its token; `lent`; the locals from 6 on]
         move ! (4 ∷ 2 ∷ 3 ∷ 0 ∷ []) $ join ! $
         use3 W (raw (All 𝓤 H A mem″ run″ .pre (callee α l₆ γ′ β ε))) (goes α l₆ γ′ β ε) $
-        -- [what is asked; what is kept; `lent`; _11 at 3; _10 at 5; _9 at 7; _8 at 9; _7 at 11; _6's end at 13; _5 at 14; _4 at 16; _3 at 18; _2 at 20; _1 at 22; _0 at 24]
+        -- [what is asked; what is kept; `lent`; _11 at 3; _10 at 5; _9 at 7; _8 at 9; _7 at 11; _6's end at 13; _5
+        -- at 14; _4 at 16; _3 at 18; _2 at 20; _1 at 22; _0 at 24]
         calls-at ! fm (All 𝓤 H A mem″ run″) known (callee α l₆ γ′ β ε)
         (and-then ! (load ! (from ! (stop !)) (look ! 7 refl)) (and-then ! (load ! (from ! (stop !)) (look ! 18 refl)) (and-then ! (load ! (from ! (stop !)) (look ! 3 refl)) (and-then ! (load ! (from ! (stop !)) (look ! 14 refl)) (no-more !))))) (λ v.
         use1 W (later (some (λ (ws : List ℕ). given ((v ≡ vunit) × BoxesPainted boxes lay value page ws) (‵ (flft (α ∷ []) fullShare) ⊛ (‵ (flft (β ∷ []) fullShare) ⊛ ‵ (finally u8 ε ws))))))

@@ -1,4 +1,5 @@
--- `order::is_page` meets its contract: the tests before the last one say it all, and the last one keeps the listing short.
+-- `order::is_page` meets its contract: the tests before the last one say it all, and the last one keeps the listing
+-- short.
 -- Assumes nothing.
 use mathlib.Core.Bool.{false≢true}
 use native.Mathlib.Nat.{mul-le-mul}

@@ -1,4 +1,5 @@
--- `runs::plans::far_edge` meets its contract: past the last row no line is left, and in a row those that do not drift past the right edge.
+-- `runs::plans::far_edge` meets its contract: past the last row no line is left, and in a row those that do not
+-- drift past the right edge.
 -- Assumes nothing.
 use native.Mathlib.Omega.{arith}
 use borrow.Author.Needs.{needs}

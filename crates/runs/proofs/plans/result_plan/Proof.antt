@@ -1,4 +1,5 @@
--- `runs::plans::result_plan` meets its contract: its places are in the pages, as the row of the window's first pixel is.
+-- `runs::plans::result_plan` meets its contract: its places are in the pages, as the row of the window's first
+-- pixel is.
 -- Assumes nothing.
 use mathlib.Core.Path.{refl, ap}
 use Prim.Native.Nat.{ℕ, _+_, _*_, _-_}

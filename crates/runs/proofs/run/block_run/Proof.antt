@@ -1,4 +1,5 @@
--- `runs::run::block_run` meets its contract: the first k bytes are kept or chosen, and the comparisons counted. Assumes nothing.
+-- `runs::run::block_run` meets its contract: the first k bytes are kept or chosen, and the comparisons counted.
+-- Assumes nothing.
 use mathlib.Core.Path.{_≡_, refl, subst, ap, ap₂, _∙_}
 use mathlib.Core.Bool.{Bool, cond}
 use Prim.Native.Nat.{ℕ, _+_, _-_, _≤_}

@@ -1,4 +1,5 @@
--- `runs::run::choose_into` meets its contract: the first k bytes are chosen, and k comparisons counted. Assumes nothing.
+-- `runs::run::choose_into` meets its contract: the first k bytes are chosen, and k comparisons counted. Assumes
+-- nothing.
 use mathlib.Core.Path.{_≡_, refl, subst, ap, ap₂, _∙_}
 use Prim.Native.Nat.{ℕ, _+_, _-_, _≤_}
 use native.Mathlib.Omega.{arith}

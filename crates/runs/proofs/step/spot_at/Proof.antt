@@ -1,4 +1,5 @@
--- `runs::step::spot_at` meets its contract: a step is off the page below it, left of it or right of it, or it has its place.
+-- `runs::step::spot_at` meets its contract: a step is off the page below it, left of it or right of it, or it has
+-- its place.
 -- Assumes nothing.
 use mathlib.Core.Path.{ap₂, _∙_}
 use Prim.Native.Nat.{ℕ, _+_, _-_, _*_}

@@ -1,4 +1,5 @@
--- `sweep::bottom::block_part` meets its contract: the places of the window's first pixels, of the lines' last ones, and of the marks.
+-- `sweep::bottom::block_part` meets its contract: the places of the window's first pixels, of the lines' last ones,
+-- and of the marks.
 -- Assumes nothing.
 use mathlib.Core.Path.{ap, _∙_}
 use mathlib.Core.Logic.{inl}

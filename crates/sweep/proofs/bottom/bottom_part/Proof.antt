@@ -1,4 +1,5 @@
--- `sweep::bottom::bottom_part` meets its contract: the windows that begin before the line, and the others. Assumes nothing.
+-- `sweep::bottom::bottom_part` meets its contract: the windows that begin before the line, and the others. Assumes
+-- nothing.
 use mathlib.Core.Path.{subst, _∙_}
 use Prim.Native.Nat.{zero-le}
 use native.Mathlib.Nat.{zero-add}

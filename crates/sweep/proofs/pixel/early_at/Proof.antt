@@ -1,4 +1,5 @@
--- `sweep::pixel::early_at` meets its contract: the line ends in its first block, whose extreme stands at its entry. Assumes nothing.
+-- `sweep::pixel::early_at` meets its contract: the line ends in its first block, whose extreme stands at its entry.
+-- Assumes nothing.
 use mathlib.Core.Path.{ap, _∙_}
 use Prim.Native.Nat.{ℕ, _+_, zero-le}
 use native.Mathlib.Omega.{arith}

@@ -1,4 +1,5 @@
--- `sweep::pixel::reached_at` meets its contract: a window that begins with a block, and one that begins inside one. Assumes nothing.
+-- `sweep::pixel::reached_at` meets its contract: a window that begins with a block, and one that begins inside one.
+-- Assumes nothing.
 use mathlib.Core.Path.{_≡_, sym, ap, _∙_}
 use Prim.Native.Nat.{ℕ, _+_, _-_, _%_, _≤_, zero-le}
 use native.Mathlib.Omega.{arith}

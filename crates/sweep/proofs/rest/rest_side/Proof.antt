@@ -1,4 +1,5 @@
--- `sweep::rest::rest_side` meets its contract: the lines that leave at the page's bottom, and the others. Assumes nothing.
+-- `sweep::rest::rest_side` meets its contract: the lines that leave at the page's bottom, and the others. Assumes
+-- nothing.
 use mathlib.Core.Path.{_≡_, sym, subst, _∙_}
 use mathlib.Core.List.{List}
 use Prim.Native.Nat.{ℕ, _-_, zero-le}

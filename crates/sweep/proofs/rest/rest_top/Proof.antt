@@ -1,4 +1,5 @@
--- `sweep::rest::rest_top` meets its contract: no column, the line before its window, a whole block, or a part of one. Assumes nothing.
+-- `sweep::rest::rest_top` meets its contract: no column, the line before its window, a whole block, or a part of
+-- one. Assumes nothing.
 use mathlib.Core.Path.{_≡_, refl, subst}
 use Prim.Native.Nat.{ℕ, _-_, zero-le}
 use native.Mathlib.Omega.{arith}

@@ -1,4 +1,5 @@
--- `sweep::rest::step_edge` meets its contract: past the last row, no column or all of them, or up to where lines are lost. Assumes nothing.
+-- `sweep::rest::step_edge` meets its contract: past the last row, no column or all of them, or up to where lines
+-- are lost. Assumes nothing.
 use mathlib.Core.Path.{sym, ap₂, subst, _∙_}
 use Prim.Native.Nat.{ℕ, _-_}
 use native.Mathlib.Omega.{arith}

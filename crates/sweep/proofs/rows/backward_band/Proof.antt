@@ -1,4 +1,5 @@
--- `sweep::rows::backward_band` meets its contract: the rows are copied, then those from left on are swept. Assumes nothing.
+-- `sweep::rows::backward_band` meets its contract: the rows are copied, then those from left on are swept. Assumes
+-- nothing.
 use mathlib.Core.Path.{_≡_, refl, _∙_}
 use mathlib.Core.Logic.{inr}
 use Prim.Native.Nat.{ℕ, suc, _+_, _-_, _*_, _≤_}

@@ -1,4 +1,5 @@
--- `sweep::rows::forward` meets its contract: above row the extremes are made, and the results some rows behind. Assumes nothing.
+-- `sweep::rows::forward` meets its contract: above row the extremes are made, and the results some rows behind.
+-- Assumes nothing.
 use mathlib.Core.Path.{_≡_, subst, _∙_}
 use Prim.Native.Nat.{ℕ, suc, _+_, _-_, _*_, _≤_, min}
 use native.Mathlib.Omega.{arith}

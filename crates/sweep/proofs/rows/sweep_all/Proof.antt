@@ -1,4 +1,5 @@
--- `sweep::rows::sweep_all` meets its contract: the backward sweep, then the forward one with the results. Assumes nothing.
+-- `sweep::rows::sweep_all` meets its contract: the backward sweep, then the forward one with the results. Assumes
+-- nothing.
 use Prim.Native.Nat.{_-_}
 use native.Mathlib.Omega.{arith}
 use borrow.Author.Needs.{needs}

@@ -1,4 +1,5 @@
--- `tray::paint::paint` meets its contract. The invariant: the rows from top to just above r are painted, and nothing else.
+-- `tray::paint::paint` meets its contract. The invariant: the rows from top to just above r are painted, and
+-- nothing else.
 -- Assumes nothing.
 use mathlib.Core.Path.{_≡_, refl, subst}
 use Prim.Native.Nat.{ℕ, _+_, _-_, _*_, _≤_}

@@ -1,4 +1,5 @@
--- `tray::place::is_shorter` meets its contract: a quotient below the stride is a length below the product. Assumes nothing.
+-- `tray::place::is_shorter` meets its contract: a quotient below the stride is a length below the product. Assumes
+-- nothing.
 use borrow.Author.Needs.{needs}
 use Rattle.tray.proofs.Decisions.{shorter-none, shorter-some}
 use Rattle.tray.proofs.place.is_shorter.Statement.{statement}

@@ -1,4 +1,5 @@
--- `tray::turn::copy_rows` meets its contract. The invariant: the first r rows are copied, and nothing else is changed. Assumes nothing.
+-- `tray::turn::copy_rows` meets its contract. The invariant: the first r rows are copied, and nothing else is
+-- changed. Assumes nothing.
 use mathlib.Core.Path.{_≡_, sym, _∙_, subst}
 use Prim.Native.Nat.{ℕ, _+_, _-_, _≤_, _<_, _^_}
 use native.Mathlib.Nat.{add-sub-cancel-left}

@@ -1,4 +1,5 @@
--- `tray::turn::gather` meets its contract. The invariant: the columns from b to just before k are gathered. Assumes nothing.
+-- `tray::turn::gather` meets its contract. The invariant: the columns from b to just before k are gathered. Assumes
+-- nothing.
 use mathlib.Core.Path.{_≡_, sym, subst}
 use Prim.Native.Nat.{ℕ, _-_, _≤_, _<_}
 use native.Mathlib.Omega.{arith}

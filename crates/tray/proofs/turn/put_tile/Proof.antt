@@ -1,5 +1,5 @@
--- `tray::turn::put_tile` meets its contract. The invariant: i rows of the tile are in their place, and start is where the next row starts, if
--- there is a next one. Assumes nothing.
+-- `tray::turn::put_tile` meets its contract. The invariant: i rows of the tile are in their place, and start is
+-- where the next row starts, if there is a next one. Assumes nothing.
 use mathlib.Core.Path.{_≡_, _∙_, ap, subst}
 use Prim.Native.Nat.{ℕ, _+_, _-_, _≤_, _<_}
 use native.Mathlib.Omega.{arith}

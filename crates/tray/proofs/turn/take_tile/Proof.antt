@@ -1,5 +1,5 @@
--- `tray::turn::take_tile` meets its contract. The invariant: k rows of the tile are taken, and start is where the next one starts, if there
--- is a next one. Assumes nothing.
+-- `tray::turn::take_tile` meets its contract. The invariant: k rows of the tile are taken, and start is where the
+-- next one starts, if there is a next one. Assumes nothing.
 use mathlib.Core.Path.{_≡_, _∙_, ap, subst}
 use Prim.Native.Nat.{ℕ, _+_, _-_, _≤_, _<_}
 use native.Mathlib.Omega.{arith}

@@ -1,4 +1,5 @@
--- `tray::turn::turn_band` meets its contract. The invariant: the band is right from column 0 to just before b. Assumes nothing.
+-- `tray::turn::turn_band` meets its contract. The invariant: the band is right from column 0 to just before b.
+-- Assumes nothing.
 use Prim.Native.Nat.{_+_, _-_, _*_, _≤_}
 use native.Mathlib.Omega.{arith}
 use borrow.Author.Needs.{needs}

@@ -1,4 +1,5 @@
--- `tray::turn::turn_rows` meets its contract. The invariant: the rows of the columns from a to just before i are filled. Assumes nothing.
+-- `tray::turn::turn_rows` meets its contract. The invariant: the rows of the columns from a to just before i are
+-- filled. Assumes nothing.
 use mathlib.Core.Path.{_≡_, subst}
 use Prim.Native.Nat.{ℕ, _+_, _-_, _≤_}
 use native.Mathlib.Nat.{le-refl}
