@@ -7,7 +7,7 @@ use mathlib.Core.Bool.{Bool, true, false, _&&_, cond, and-eq-true-iff}
 use mathlib.Core.List.{List, [], _∷_, _++_}
 use Prim.Native.Nat.{ℕ, zero, suc, _+_, _-_, _*_, _/_, _%_, _≤_, _<_, max}
 use native.Mathlib.Nat.{add-zero, mul-le-mul-right, mul-comm, mul-assoc, suc-mul, mod-eq-of-lt, div-eq-of-lt}
-use native.Mathlib.Nat.{div-add-mod', mul-add-mod-self-right, mul-add-div-right}
+use native.Mathlib.Nat.{mod-lt, div-add-mod', div-lt-iff-lt-mul, mul-zero, mul-add-mod-self-right, mul-add-div-right}
 use native.Mathlib.Decide.{decLt}
 use native.Mathlib.Omega.{arith}
 use lib.ListN.{length, getD, take, drop, replicate, length-append, length-replicate, length-drop, getD-replicate}
@@ -397,3 +397,49 @@ pub compact-byte :
     (lay : Layout) (c r : ℕ) → byteOf (compactOf lay) (compactColumn lay c r) (compactRow lay c r) ≡ compactAt lay c r
 unfolding byteOf rowStart compactOf compactAt
 compact-byte lay c r = omega arith
+
+-- each byte of the compact page is a pixel's
+pub record PlaceOf (lay : Layout) (i : ℕ) : Type 0 where
+  pub column : ℕ
+  pub row : ℕ
+  pub column-in : column < lay .width
+  pub row-in : row < lay .height
+  pub byte : compactAt lay column row ≡ i
+
+pub place-of : (lay : Layout) (i : ℕ) → i < lay .width * lay .height → PlaceOf lay i
+unfolding compactAt
+place-of lay i i-in =
+    let w = compactWidth lay in
+    let below : i < compactHeight lay * w = rw (sides-product (lay .steep) (lay .width) (lay .height)) i-in in
+    by-cases (decLt 0 w)
+    (λ some.
+    let p = compact-pixel lay (i / w) (i % w) (div-lt-iff-lt-mul some .1 below) (mod-lt i some) in
+    record {
+      column = pageColumn lay (i / w) (i % w);
+      row = pageRow lay (i / w) (i % w);
+      column-in = p .column-in;
+      row-in = p .row-in;
+      byte =
+          let column = compactColumn lay (pageColumn lay (i / w) (i % w)) (pageRow lay (i / w) (i % w)) in
+          ap (λ (k : ℕ). k * w + column) (p .down)
+          ∙ ap (λ (k : ℕ). i / w * w + k) (p .across)
+          ∙ div-add-mod' i w;
+    })
+    (λ none.
+    let zero-wide : compactWidth lay ≡ 0 = omega arith in
+    absurd (omega (arith, below, ap (λ (k : ℕ). compactHeight lay * k) zero-wide, mul-zero (compactHeight lay))))
+
+-- two buffers that agree on every pixel of the compact page and on all that follows it are the same
+pub compact-one :
+    (lay : Layout) (one two : List ℕ) → length one ≡ length two
+    → ((r : ℕ) → r < lay .height → (c : ℕ) → c < lay .width
+    → getD one (compactAt lay c r) 0 ≡ getD two (compactAt lay c r) 0)
+    → ((i : ℕ) → lay .width * lay .height ≤ i → getD one i 0 ≡ getD two i 0) → one ≡ two
+compact-one lay one two size pixels rest =
+    ext-getD 0 one two size
+    (λ i i-in.
+    by-cases (decLt i (lay .width * lay .height))
+    (λ l.
+    let x = place-of lay i l in
+    subst (λ (k : ℕ). getD one k 0 ≡ getD two k 0) (x .byte) (pixels (x .row) (x .row-in) (x .column) (x .column-in)))
+    (λ past. rest i (omega arith)))
