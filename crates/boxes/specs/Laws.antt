@@ -19,13 +19,13 @@ both false b e = absurd (true≢false (sym e))
 -- ---- a box and a pixel
 
 -- the pixel at column c, row r lies in the box
-pub record Inside (b : HiddenBox) (c r : ℕ) : Type 0 where
+pub record InBox (b : HiddenBox) (c r : ℕ) : Type 0 where
   pub from-left : b .left ≤ c
   pub before-right : c < b .left + b .width
   pub from-top : b .top ≤ r
   pub before-bottom : r < b .top + b .height
 
-pub covers-inside : (b : HiddenBox) (c r : ℕ) → covers b c r ≡ true → Inside b c r
+pub covers-inside : (b : HiddenBox) (c r : ℕ) → covers b c r ≡ true → InBox b c r
 unfolding covers
 covers-inside b c r e =
     let sides = both (leb (b .left) c && ltb c (b .left + b .width)) _ e in
@@ -38,7 +38,7 @@ covers-inside b c r e =
       before-bottom = ltb-true _ _ (down .1);
     }
 
-pub inside-covers : (b : HiddenBox) (c r : ℕ) → Inside b c r → covers b c r ≡ true
+pub inside-covers : (b : HiddenBox) (c r : ℕ) → InBox b c r → covers b c r ≡ true
 unfolding covers
 inside-covers b c r i =
     rw (

@@ -33,7 +33,7 @@ use Rattle.filter.specs.Seen.{runsSteep}
 use Rattle.filter.specs.Filters.{dilationBack}
 use Rattle.filter.specs.Work.{charged, chargedAt, passWork, erosionWork, dilationWork, workOf}
 use Rattle.job.specs.Order.{lineOf, segmentOf, pagesOf}
-use Rattle.job.specs.Judging.{judgeSides, judgeSource, judgeOutput, judgeScratch, judgeBoxesFrom, judgeBoxes}
+use Rattle.job.specs.Judging.{judgeSides, judgeSource, judgeOutput, judgeScratch, judgePageBoxesFrom, judgePageBoxes}
 use Rattle.job.specs.Judging.{judgePlaces}
 use Rattle.job.specs.Job.{jobWork, answer}
 use Rattle.job.specs.declared.Lengths.{Lengths}
@@ -75,7 +75,7 @@ unfolding small
 opening-bytes = small-bytes opening refl
 
 opening-done : answer opening row sizes ≡ Done 6
-unfolding answer jobWork judgePlaces judgeSides judgeSource judgeOutput judgeScratch judgeBoxes judgeBoxesFrom unless
+unfolding answer jobWork judgePlaces judgeSides judgeSource judgeOutput judgeScratch judgePageBoxes judgePageBoxesFrom unless
     _then_ boxAllowed sourcePage outputPage sideAllowed allowed fits scratchNeeded pagesOf workOf erosionWork
     dilationWork passWork chargedAt charged dilationBack runsSteep lineOf segmentOf boxesOf shallow steep majorOf
     minorOf floorDiv D shift period profile place landing stepOf majorAt within inPage count behind ahead rightward

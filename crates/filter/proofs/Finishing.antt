@@ -25,7 +25,7 @@ use Rattle.tray.specs.declared.Placement.{Placement}
 use Rattle.filter.specs.Seen.{View, seen, turned}
 use Rattle.filter.specs.Filters.{operated, filtered, orWhite, recipeBoxes, filteredPage}
 use Rattle.filter.specs.Work.{workOf}
-use Rattle.filter.specs.Engine.{Absent, Bytes, steepOf, layoutOf, gridOf, placeOf, Held, PassDone, Runs, Tables}
+use Rattle.filter.specs.Engine.{Absent, Bytes, steepOf, layoutOf, gridOf, scratchPlace, Held, PassDone, PassReady, Tables}
 use Rattle.filter.specs.Engine.{Enters, Ready}
 use Rattle.filter.specs.Promises.{Fits, Filtered}
 use Rattle.filter.specs.declared.Recipe.{Recipe}
@@ -116,7 +116,7 @@ module _ (how : Recipe) (p : Placement) (source : List ℕ) (bytes : (k : ℕ) �
 
     pixel-by :
         (hid : Bool) (c r : ℕ) → hidden (recipeBoxes how) c r ≡ hid → c < p .width → r < p .height
-        → getD four (placeOf how (p .width) (p .height) c r) 0
+        → getD four (scratchPlace how (p .width) (p .height) c r) 0
         ≡ filteredPage how (p .width) (p .height) (pixelIn source p) c r
     unfolding filteredPage filtered orWhite
     pixel-by true c r e c-in r-in =
@@ -198,7 +198,7 @@ module _ (how : Recipe) (p : Placement) (lay : Layout) (laid : lay ≡ layoutOf 
   pub runs-asks :
       (source scratch : ℕ) → Enters how p source scratch → (profile reaches : List ℕ)
       → Tables how (compactHeight lay) profile reaches
-      → (n : ℕ) → n ≡ scratch → Runs how lay profile reaches n
+      → (n : ℕ) → n ≡ scratch → PassReady how lay profile reaches n
   runs-asks source scratch enters profile reaches all n same =
       record {
         segment = enters .segment;

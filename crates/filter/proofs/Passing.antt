@@ -24,7 +24,7 @@ use Rattle.filter.specs.Seen.{View, turned}
 use Rattle.filter.specs.Filters.{pass, eroded, dilationBack, dilated, opened, closed, operated, recipeBoxes}
 use Rattle.filter.specs.Work.{passWork, erosionWork, dilationWork, workOf}
 use Rattle.filter.specs.Engine.{neutral, orNeutral, Absent, Shows, steepOf, fallsOf, layoutOf, backOf}
-use Rattle.filter.specs.Engine.{passed, passCost, gridOf, placeOf, Held, Fair, Runs, PassDone}
+use Rattle.filter.specs.Engine.{passed, passCost, gridOf, scratchPlace, Held, Fair, PassReady, PassDone}
 use Rattle.filter.proofs.Bridge.{bridge}
 use Rattle.filter.proofs.Charges.{work}
 use Rattle.filter.proofs.Grids.{grid-sized}
@@ -85,7 +85,7 @@ module _ (how : Recipe) (ok : Fair (how .segment)) (width height : ℕ)
 
   -- a pixel's place, by its axes
   place-is : (c r : ℕ)
-      → placeOf how width height c r
+      → scratchPlace how width height c r
       ≡ downOf (steepOf how) c r * W + mirrored (fallsOf how) W (acrossOf (steepOf how) c r)
   unfolding compactAt compactColumn
   place-is c r = refl
@@ -100,7 +100,7 @@ module _ (how : Recipe) (ok : Fair (how .segment)) (width height : ℕ)
     -- the place of (M, m), found by its column and row
     found : (M m : ℕ) → M < H → m < W
         → f M (mirrored (fallsOf how) W m)
-        ≡ getD mid (placeOf how width height (downOf (steepOf how) M m) (acrossOf (steepOf how) M m)) 0
+        ≡ getD mid (scratchPlace how width height (downOf (steepOf how) M m) (acrossOf (steepOf how) M m)) 0
     found M m rows columns =
         let p = pixel (steepOf how) width height M m rows columns in
         ap (λ (i : ℕ). getD mid i 0)
@@ -139,7 +139,7 @@ module _ (how : Recipe) (ok : Fair (how .segment)) (width height : ℕ)
       made M rows x columns = swept .made f (λ R lo hi x′ k. refl) M zero-le rows x columns
 
       one-after : (r : ℕ) → r < height → (c : ℕ) → c < width → hidden (recipeBoxes how) c r ≡ false
-          → turned (steepOf how) after c r ≡ some (getD new (placeOf how width height c r) 0)
+          → turned (steepOf how) after c r ≡ some (getD new (scratchPlace how width height c r) 0)
       unfolding gridOf
       one-after r r-in c c-in e =
           let M : ℕ = downOf (steepOf how) c r in
@@ -205,7 +205,7 @@ passed-as g h old new count e swept = subst (λ (q : Grid). Passed q old new cou
 
 -- what a pass asks of its grid
 pub pass-asks :
-    (how : Recipe) (lay : Layout) (profile reaches : List ℕ) (room : ℕ) → Runs how lay profile reaches room
+    (how : Recipe) (lay : Layout) (profile reaches : List ℕ) (room : ℕ) → PassReady how lay profile reaches room
     → (low : Bool) (g : Grid)
     → g ≡ gridOf how (lay .width) (lay .height) low → (n : ℕ) → n ≡ room
     → Sized g × Tabled g profile reaches × (size g + size g ≤ n)
@@ -222,7 +222,7 @@ pass-asks how lay profile reaches room runs low g is n same =
 
 -- a pass over a page laid out so
 pub pass-done-as :
-    (how : Recipe) (lay : Layout) (profile reaches : List ℕ) (room : ℕ) → Runs how lay profile reaches room
+    (how : Recipe) (lay : Layout) (profile reaches : List ℕ) (room : ℕ) → PassReady how lay profile reaches room
     → (low : Bool) (g : Grid)
     → g ≡ gridOf how (lay .width) (lay .height) low → (value : ℕ) → value ≡ neutral low
     → (old mid new : List ℕ) (count : ℕ)
@@ -360,8 +360,8 @@ module _ (how : Recipe) (lay : Layout) (laid : lay ≡ layoutOf how (lay .width)
       }
 
 pub runs-as : (how : Recipe) (lay : Layout) (profile reaches : List ℕ) (n m : ℕ) → n ≡ m
-    → Runs how lay profile reaches m → Runs how lay profile reaches n
-runs-as how lay profile reaches n m e runs = subst (Runs how lay profile reaches) (sym e) runs
+    → PassReady how lay profile reaches m → PassReady how lay profile reaches n
+runs-as how lay profile reaches n m e runs = subst (PassReady how lay profile reaches) (sym e) runs
 
 -- how many pixels a page may have
 pub pixels-most : (how : Recipe) (lay : Layout) → BoxesLie (recipeBoxes how) lay → lay .width * lay .height ≤ 67108864

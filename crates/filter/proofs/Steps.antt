@@ -13,7 +13,7 @@ use Rattle.geometry.specs.Laws.{major-is, mirrored-below, inside, inside-in-pag
 use Rattle.filter.proofs.Both.{and-true}
 use Rattle.runs.specs.Grid.{Sized, startRow, lineName, entry, leave, steps, rowAt, number, lineSteps}
 use Rattle.runs.specs.GridLaws as grid
-use Rattle.runs.specs.GridLaws.{OnPage, on-page, on-line}
+use Rattle.runs.specs.GridLaws.{StepOnPage, on-page, on-line}
 use Rattle.runs.specs.declared.Grid.{Grid}
 
 -- in plain numbers: a step s is between the edges of a side W, for a pixel at x and the drifts t at its step and s at
@@ -62,7 +62,7 @@ module _ (g : Grid) (sized : Sized g) (M m : ℕ) (rows : M < g .height) (column
   row-of-step s = major-is (g .line) M s
 
   on-of-inside : (s : ℕ) → Inside (g .line) (g .height) (g .width) M (normal g m) s
-      → OnPage g (startRow g M) (nameOf g M m) s
+      → StepOnPage g (startRow g M) (nameOf g M m) s
   unfolding lineName startRow
   on-of-inside s i =
       record {
@@ -73,7 +73,7 @@ module _ (g : Grid) (sized : Sized g) (M m : ℕ) (rows : M < g .height) (column
         right = right-on _ _ _ _ place-below (i .high);
       }
 
-  inside-of-on : (s : ℕ) → OnPage g (startRow g M) (nameOf g M m) s
+  inside-of-on : (s : ℕ) → StepOnPage g (startRow g M) (nameOf g M m) s
       → Inside (g .line) (g .height) (g .width) M (normal g m) s
   unfolding lineName startRow
   inside-of-on s o =

@@ -90,8 +90,8 @@ gridOf how width height low =
 -- ---- the scratch
 
 -- a pixel's byte in the scratch
-abbrev pub placeOf : Recipe → ℕ → ℕ → ℕ → ℕ → ℕ
-placeOf how width height c r = compactAt (layoutOf how width height) c r
+abbrev pub scratchPlace : Recipe → ℕ → ℕ → ℕ → ℕ → ℕ
+scratchPlace how width height c r = compactAt (layoutOf how width height) c r
 
 -- the scratch holds a page: nothing is there where a box hides, and what is there stands at its place
 pub record Held (how : Recipe) (width height : ℕ) (page : View) (scratch : List ℕ) : Type 0 where
@@ -101,7 +101,7 @@ pub record Held (how : Recipe) (width height : ℕ) (page : View) (scratch : Lis
       → turned (steepOf how) page c r ≡ none
   pub one-there :
       (r : ℕ) → r < height → (c : ℕ) → c < width → hidden (recipeBoxes how) c r ≡ false
-      → turned (steepOf how) page c r ≡ some (getD scratch (placeOf how width height c r) 0)
+      → turned (steepOf how) page c r ≡ some (getD scratch (scratchPlace how width height c r) 0)
 
 -- ---- one pass
 
@@ -113,7 +113,7 @@ pub record Fair (s : Segment) : Type 0 where
   pub origin-below : s .origin < s .length
 
 -- what a pass asks: a segment and a page within its limits with its boxes, the line's tables, and room for two pages
-pub record Runs (how : Recipe) (lay : Layout) (profile reaches : List ℕ) (room : ℕ) : Type 0 where
+pub record PassReady (how : Recipe) (lay : Layout) (profile reaches : List ℕ) (room : ℕ) : Type 0 where
   pub segment : Fair (how .segment)
   pub laid : lay ≡ layoutOf how (lay .width) (lay .height)
   pub count-most : how .count ≤ 64
@@ -156,7 +156,7 @@ pub record Ready (how : Recipe) (from : Placement) (source before after : List �
   pub rest : (i : ℕ) → from .width * from .height + from .width * from .height ≤ i → getD after i 0 ≡ getD before i 0
   pub pixel :
       (r : ℕ) → r < from .height → (c : ℕ) → c < from .width
-      → getD after (placeOf how (from .width) (from .height) c r) 0
+      → getD after (scratchPlace how (from .width) (from .height) c r) 0
       ≡ filteredPage how (from .width) (from .height) (pixelIn source from) c r
   pub work-is : work ≡ workOf (how .operation) (how .segment) (from .width) (from .height)
   pub work-few : work ≤ 6 * (from .width * from .height)

@@ -6,7 +6,7 @@ ghost use Rattle.geometry.specs.Drift.{Allowed};
 ghost use Rattle.hiding.specs.Hiding.{Hideable, BoxesPainted};
 ghost use Rattle.filter.specs.Filters.{operated, recipeBoxes};
 ghost use Rattle.filter.specs.Work.{workOf};
-ghost use Rattle.filter.specs.Engine.{neutral, steepOf, fallsOf, layoutOf, backOf, gridOf, Fair, Runs, PassDone};
+ghost use Rattle.filter.specs.Engine.{neutral, steepOf, fallsOf, layoutOf, backOf, gridOf, Fair, PassReady, PassDone};
 ghost use Rattle.filter.specs.Engine.{passed, passCost};
 use super::Recipe;
 use super::Segment;
@@ -115,7 +115,7 @@ fn one_pass(
     reaches: &[usize],
     scratch: &mut [u8],
 ) -> usize
-    requires { ⌜ Runs how lay (now profile) (now reaches) (length (now scratch)) ⌝ }
+    requires { ⌜ PassReady how lay (now profile) (now reaches) (length (now scratch)) ⌝ }
     ensures { λ r. ⌜ PassDone how lay (passed how low) (passCost how lay low) 3
         (now (scratch .entry)) (now (scratch .exit)) r ⌝ }
 {
@@ -133,7 +133,7 @@ pub fn filter_held(
     reaches: &[usize],
     scratch: &mut [u8],
 ) -> usize
-    requires { ⌜ Runs how lay (now profile) (now reaches) (length (now scratch)) ⌝ }
+    requires { ⌜ PassReady how lay (now profile) (now reaches) (length (now scratch)) ⌝ }
     requires { ⌜ (1 ≤ how .operation) × (how .operation ≤ 4) ⌝ }
     ensures { λ r. ⌜ PassDone how lay (operated (how .operation) (how .segment))
         (workOf (how .operation) (how .segment) (lay .width) (lay .height)) 6

@@ -2,10 +2,10 @@
 use mathlib.Core.Path.{_≡_, refl, sym, ap, _∙_}
 use mathlib.Core.Bool.{Bool, true, false, not, cond}
 use mathlib.Core.List.{List, [], _∷_}
-use Prim.Native.Nat.{ℕ, zero, suc, _+_, _≤_, _<_}
+use Prim.Native.Nat.{ℕ, suc, _+_, _≤_, _<_}
 use native.Mathlib.Nat.{add-zero, add-suc, suc-add}
 use native.Mathlib.Omega.{arith}
-use lib.ListN.{length, take}
+use lib.ListN.{length}
 use lib.Seq.{length-take-le}
 use Rattle.refusal.specs.Chain.{unless, _then_}
 use Rattle.refusal.specs.declared.Answer.{Answer}
@@ -16,7 +16,7 @@ use Rattle.ticket.specs.declared.Ticket.{Ticket}
 use Rattle.boxes.specs.Boxes.{boxesOf, boxAllowed, answers}
 use Rattle.boxes.specs.First.{firstOf}
 use Rattle.boxes.specs.declared.Question.the-variants.{NotAllowed}
-use Rattle.job.specs.Judging.{judgeBoxesFrom}
+use Rattle.job.specs.Judging.{judgePageBoxesFrom}
 
 module _ (w h : ℕ) where
   abbrev pub refused : HiddenBox → Bool
@@ -31,11 +31,11 @@ module _ (w h : ℕ) where
 
   pub first-refused :
       (k : ℕ) (boxes : List HiddenBox) → firstOf refused boxes < length boxes
-      → judgeBoxesFrom w h k boxes ≡ Refused BadBox (k + firstOf refused boxes)
-  unfolding firstOf judgeBoxesFrom answers
+      → judgePageBoxesFrom w h k boxes ≡ Refused BadBox (k + firstOf refused boxes)
+  unfolding firstOf judgePageBoxesFrom answers
   first-refused k [] below = absurd (omega arith)
   first-refused k (b ∷ boxes) below =
-      first-case (boxAllowed w h b) k (firstOf refused boxes) (length boxes) (judgeBoxesFrom w h (suc k) boxes)
+      first-case (boxAllowed w h b) k (firstOf refused boxes) (length boxes) (judgePageBoxesFrom w h (suc k) boxes)
       (first-refused (suc k) boxes)
       below
 
@@ -47,11 +47,11 @@ module _ (w h : ℕ) where
   none-case false k m n rest later above = absurd (omega arith)
 
   pub none-refused :
-      (k : ℕ) (boxes : List HiddenBox) → length boxes ≤ firstOf refused boxes → judgeBoxesFrom w h k boxes ≡ Done 0
-  unfolding firstOf judgeBoxesFrom answers
+      (k : ℕ) (boxes : List HiddenBox) → length boxes ≤ firstOf refused boxes → judgePageBoxesFrom w h k boxes ≡ Done 0
+  unfolding firstOf judgePageBoxesFrom answers
   none-refused k [] above = refl
   none-refused k (b ∷ boxes) above =
-      none-case (boxAllowed w h b) k (firstOf refused boxes) (length boxes) (judgeBoxesFrom w h (suc k) boxes)
+      none-case (boxAllowed w h b) k (firstOf refused boxes) (length boxes) (judgePageBoxesFrom w h (suc k) boxes)
       (none-refused (suc k) boxes)
       above
 

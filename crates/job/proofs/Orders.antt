@@ -1,7 +1,7 @@
 -- What a ticket that was read orders is within the filter's limits. Assumes nothing.
-use mathlib.Core.Path.{_≡_, refl, ap₂}
+use mathlib.Core.Path.{_≡_, ap₂}
 use mathlib.Core.Logic.{by-cases}
-use Prim.Native.Nat.{ℕ, _≤_, _<_}
+use Prim.Native.Nat.{_≤_, _<_}
 use native.Mathlib.Decide.{decLe}
 use native.Mathlib.Omega.{arith}
 use mir.Syntax.{w32}
@@ -11,7 +11,6 @@ use lib.IntN.{ℤ}
 use Rattle.geometry.specs.Drift as Drift
 use Rattle.geometry.specs.Laws as Lines
 use Rattle.geometry.specs.Vector.{majorOf}
-use Rattle.geometry.specs.declared.Line.{Line}
 use Rattle.ticket.specs.Judging.{isPeriodic}
 use Rattle.ticket.specs.Laws.{Allowed}
 use Rattle.ticket.specs.declared.Ticket.{Ticket}

@@ -3,35 +3,33 @@ use mathlib.Core.Path.{_≡_, refl, sym, ap, _∙_, subst}
 use mathlib.Core.Bool.{true, false, _&&_, and-eq-true-iff}
 use mathlib.Core.List.{List}
 use mathlib.Core.Logic.{by-cases}
-use Prim.Native.Nat.{ℕ, _+_, _*_, _≤_, _<_}
+use Prim.Native.Nat.{ℕ, _+_, _*_, _≤_}
 use native.Mathlib.Nat.{mul-le-mul-right}
 use native.Mathlib.Decide.{decLt}
 use native.Mathlib.Omega.{arith}
-use lib.ListN.{length, getD, take}
+use lib.ListN.{length, getD}
 use lib.Seq.{ext-getD}
 use Rattle.refusal.specs.Answer.{isDone, whenDone}
-use Rattle.refusal.specs.Chain.{_then_, unless-done, then-on, then-stop, when-done, when-refused}
+use Rattle.refusal.specs.Chain.{_then_, unless-done, then-on, then-stop, when-refused}
 use Rattle.refusal.specs.declared.Answer.{Answer}
 use Rattle.refusal.specs.declared.Answer.the-variants.{Done}
 use Rattle.refusal.specs.declared.Refusal.the-variants.{BadSides}
 use Rattle.ticket.specs.Judging.{judged}
-use Rattle.ticket.specs.Laws.{Allowed, reading-good, read-allowed}
+use Rattle.ticket.specs.Laws.{reading-good}
 use Rattle.ticket.specs.Reading.{shown, reading}
 use Rattle.ticket.specs.declared.Reading.{Reading}
 use Rattle.ticket.specs.declared.Ticket.{Ticket}
 use Rattle.boxes.specs.Boxes.{boxesOf}
 use Rattle.hiding.specs.Hiding.{BoxesLie}
-use Rattle.tray.specs.Placement.{allowed, sourcePage, outputPage, scratchNeeded, pixelIn}
+use Rattle.tray.specs.Placement.{allowed, sourcePage, outputPage, scratchNeeded}
 use Rattle.tray.specs.Laws as tray
 use Rattle.tray.specs.Laws.{length-cleared, cleared-below, cleared-above, scratch-pages}
-use Rattle.tray.specs.Promises.{Placed}
 use Rattle.tray.specs.Written.{written, cleared}
 use Rattle.tray.specs.declared.Placement.{Placement}
 use Rattle.tray.specs.declared.Placements.{Placements}
 use Rattle.filter.specs.Engine.{layoutOf}
-use Rattle.filter.specs.Filters.{recipeBoxes, filteredPage}
+use Rattle.filter.specs.Filters.{recipeBoxes}
 use Rattle.filter.specs.Promises.{Fits, Filtered}
-use Rattle.filter.specs.Work.{workOf}
 use Rattle.filter.specs.declared.Recipe.{Recipe}
 use Rattle.job.specs.Order.{recipeOf, pagesOf}
 use Rattle.job.specs.Judging.{judgeSides, judgePlaces}

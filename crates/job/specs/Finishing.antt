@@ -15,7 +15,6 @@ use Rattle.tray.specs.Written.{written, cleared}
 use Rattle.tray.specs.declared.Placements.{Placements}
 use Rattle.job.specs.Judging.{judgePlaces}
 use Rattle.job.specs.Job.{finished, jobWork, jobScratch, lengths}
-use Rattle.job.specs.declared.Lengths.{Lengths}
 
 -- the ticket was read, and none of refusals 10 to 14 is given
 pub record Unrefused (t : Ticket) (p : Placements) (source output scratch : ℕ) : Type 0 where

@@ -35,12 +35,12 @@ judgeScratch pages w h length = unless (leb (scratchNeeded pages w h) length) Sc
 
 -- | 14 | box with a zero side or passing the page's edge | box number from 0 |, "over the boxes in order": from the
 -- k-th box on
-unfoldable pub judgeBoxesFrom : ℕ → ℕ → ℕ → List HiddenBox → Answer
-judgeBoxesFrom w h k [] = Done 0
-judgeBoxesFrom w h k (b ∷ boxes) = unless (boxAllowed w h b) BadBox k then judgeBoxesFrom w h (suc k) boxes
+unfoldable pub judgePageBoxesFrom : ℕ → ℕ → ℕ → List HiddenBox → Answer
+judgePageBoxesFrom w h k [] = Done 0
+judgePageBoxesFrom w h k (b ∷ boxes) = unless (boxAllowed w h b) BadBox k then judgePageBoxesFrom w h (suc k) boxes
 
-unfoldable pub judgeBoxes : ℕ → ℕ → List HiddenBox → Answer
-judgeBoxes w h boxes = judgeBoxesFrom w h 0 boxes
+unfoldable pub judgePageBoxes : ℕ → ℕ → List HiddenBox → Answer
+judgePageBoxes w h boxes = judgePageBoxesFrom w h 0 boxes
 
 -- "Then 10, 11, 12, 13, and 14 over the boxes in order."
 unfoldable pub judgePlaces : Ticket → Placements → Lengths → Answer
@@ -49,4 +49,4 @@ judgePlaces t p n =
     then judgeSource p (n .source)
     then judgeOutput p (n .output)
     then judgeScratch (pagesOf t) (p .width) (p .height) (n .scratch)
-    then judgeBoxes (p .width) (p .height) (boxesOf t)
+    then judgePageBoxes (p .width) (p .height) (boxesOf t)

@@ -1,12 +1,9 @@
 -- What a job that nothing refuses may rely on, in plain facts: nobody above unfolds the judging.
 -- Assumes nothing.
-use mathlib.Core.Path.{_≡_, refl, sym, ap, _∙_}
-use mathlib.Core.Bool.{Bool, true, false, _&&_, and-eq-true-iff}
+use mathlib.Core.Path.{_≡_, refl, ap, _∙_}
+use mathlib.Core.Bool.{true, _&&_, and-eq-true-iff}
 use mathlib.Core.List.{List, [], _∷_}
-use mathlib.Core.Logic.{by-cases}
-use Prim.Native.Nat.{ℕ, zero, suc, _+_, _≤_, _<_}
-use native.Mathlib.Nat.{add-zero, add-suc, suc-add}
-use native.Mathlib.Decide.{decLe}
+use Prim.Native.Nat.{ℕ, zero, suc, _≤_, _<_}
 use native.Mathlib.Omega.{arith}
 use borrow.Author.Tests.{leb-true}
 use lib.Dec.{leb}
@@ -16,7 +13,7 @@ use Rattle.geometry.specs.Laws.{sound}
 use Rattle.refusal.specs.Answer.{isDone}
 use Rattle.refusal.specs.Chain.{unless, _then_, then-done, then-work, unless-done, when-done}
 use Rattle.refusal.specs.declared.Answer.{Answer}
-use Rattle.refusal.specs.declared.Answer.the-variants.{Done, Refused}
+use Rattle.refusal.specs.declared.Answer.the-variants.{Done}
 use Rattle.refusal.specs.declared.Refusal.the-variants.{BadSides, SourceTooShort, OutputTooShort, ScratchTooShort, BadBox}
 use Rattle.ticket.specs.Judging.{judged}
 use Rattle.ticket.specs.Laws.{Allowed, Bytes, good-allowed}
@@ -33,7 +30,7 @@ use Rattle.tray.specs.declared.Placements.{Placements}
 use Rattle.filter.specs.Seen.{seen}
 use Rattle.filter.specs.Filters.{filtered, orWhite, recipeBoxes, filteredPage}
 use Rattle.job.specs.Order.{lineOf, segmentOf, white, recipeOf, pagesOf}
-use Rattle.job.specs.Judging.{judgeSides, judgeSource, judgeOutput, judgeScratch, judgeBoxesFrom, judgeBoxes, judgePlaces}
+use Rattle.job.specs.Judging.{judgeSides, judgeSource, judgeOutput, judgeScratch, judgePageBoxesFrom, judgePageBoxes, judgePlaces}
 use Rattle.job.specs.Job.{finished, jobWork, jobScratch, answer, lengths, outputAfter}
 use Rattle.job.specs.declared.Lengths.{Lengths}
 
@@ -50,15 +47,15 @@ pages-most t = omega arith
 -- ---- every box lies on the page
 
 pub boxes-allowed :
-    (w h k : ℕ) (boxes : List HiddenBox) → isDone (judgeBoxesFrom w h k boxes) ≡ true
+    (w h k : ℕ) (boxes : List HiddenBox) → isDone (judgePageBoxesFrom w h k boxes) ≡ true
     → (i : ℕ) (d : HiddenBox) → i < length boxes → boxAllowed w h (getD boxes i d) ≡ true
-unfolding judgeBoxesFrom
+unfolding judgePageBoxesFrom
 boxes-allowed w h k [] done i d below = absurd (omega arith)
 boxes-allowed w h k (b ∷ boxes) done zero d below =
-    unless-done (boxAllowed w h b) BadBox k (then-done (unless (boxAllowed w h b) BadBox k) (judgeBoxesFrom w h (suc k) boxes) done .0)
+    unless-done (boxAllowed w h b) BadBox k (then-done (unless (boxAllowed w h b) BadBox k) (judgePageBoxesFrom w h (suc k) boxes) done .0)
 boxes-allowed w h k (b ∷ boxes) done (suc i) d below =
     boxes-allowed w h (suc k) boxes
-    (then-done (unless (boxAllowed w h b) BadBox k) (judgeBoxesFrom w h (suc k) boxes) done .1)
+    (then-done (unless (boxAllowed w h b) BadBox k) (judgePageBoxesFrom w h (suc k) boxes) done .1)
     i
     d
     (omega arith)
@@ -72,9 +69,9 @@ pub record Stands (t : Ticket) (p : Placements) (n : Lengths) : Type 0 where
   pub boxes : (i : ℕ) (d : HiddenBox) → i < length (boxesOf t) → boxAllowed (p .width) (p .height) (getD (boxesOf t) i d) ≡ true
 
 pub stands : (t : Ticket) (p : Placements) (n : Lengths) → isDone (judgePlaces t p n) ≡ true → Stands t p n
-unfolding judgePlaces judgeSides judgeSource judgeOutput judgeScratch judgeBoxes jobScratch
+unfolding judgePlaces judgeSides judgeSource judgeOutput judgeScratch judgePageBoxes jobScratch
 stands t p n done =
-    let boxes : Answer = judgeBoxesFrom (p .width) (p .height) 0 (boxesOf t) in
+    let boxes : Answer = judgePageBoxesFrom (p .width) (p .height) 0 (boxesOf t) in
     let scratch : Answer = judgeScratch (pagesOf t) (p .width) (p .height) (n .scratch) in
     let output : Answer = judgeOutput p (n .output) in
     let source : Answer = judgeSource p (n .source) in

@@ -5,7 +5,7 @@ ghost use Prim.Native.Nat.{_≤_};
 ghost use lib.ListN.{length};
 ghost use Rattle.tray.specs.Placement.{longestSide, mostPages};
 ghost use Rattle.boxes.specs.Boxes.{boxesOf};
-ghost use Rattle.job.specs.Judging.{judgeSides, judgeSource, judgeOutput, judgeScratch, judgeBoxes, judgePlaces};
+ghost use Rattle.job.specs.Judging.{judgeSides, judgeSource, judgeOutput, judgeScratch, judgePageBoxes, judgePlaces};
 use super::Lengths;
 use super::order::pages_of;
 use refusal::Answer;
@@ -54,7 +54,7 @@ pub fn judge_scratch(pages: usize, width: usize, height: usize, length: usize) -
 // 14: every box of the ticket lies on the page; the place is the first one that does not.
 pub fn judge_boxes(t: Ticket, width: usize, height: usize) -> Answer
     requires { ⌜ (t .count ≤ 64) × (length (t .boxes) ≡ 64) ⌝ }
-    ensures { λ r. ⌜ r ≡ judgeBoxes width height (boxesOf t) ⌝ }
+    ensures { λ r. ⌜ r ≡ judgePageBoxes width height (boxesOf t) ⌝ }
 {
     let first = boxes::first_refused(t, width, height);
     if first < t.count {

@@ -9,7 +9,7 @@ use Rattle.geometry.specs.Line.{period}
 use Rattle.geometry.specs.Drift.{drift}
 use Rattle.geometry.specs.Laws.{period-forward, drift-bound}
 use Rattle.runs.specs.Grid.{Pixel, startRow, lineName, rowAt, columnAt, spot}
-use Rattle.runs.specs.GridLaws.{OnPage, spot-off, spot-on, start-small}
+use Rattle.runs.specs.GridLaws.{StepOnPage, spot-off, spot-on, start-small}
 use Rattle.runs.specs.declared.Grid.{Grid}
 use Rattle.runs.proofs.Bounds.{row, name-at}
 
@@ -51,7 +51,7 @@ module _ (g : Grid) (profile reaches : List ℕ) (R t x : ℕ) (at : Pixel g pro
         sym (spot-off g (at .sized) _ _ _ (λ o. let k = o .right in omega (arith, to-read, row g profile reaches R t x at .drift-read, name-at g profile reaches R t x at, at .column)))
 
     module _ (l : getD profile t 0 ≤ x + getD profile to 0) (h : x + getD profile to 0 - getD profile t 0 < g .width) where
-      on : OnPage g (startRow g R) (lineName g R x) to
+      on : StepOnPage g (startRow g R) (lineName g R x) to
       on =
           let d = row g profile reaches R t x at .drift-read in
           let n = name-at g profile reaches R t x at in

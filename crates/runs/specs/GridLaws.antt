@@ -18,7 +18,7 @@ use Rattle.runs.specs.Block.{fromStart, toEnd}
 use Rattle.runs.specs.declared.Grid.{Grid}
 
 -- a step of a line that is in the page
-pub record OnPage (g : Grid) (u z s : ℕ) : Type 0 where
+pub record StepOnPage (g : Grid) (u z s : ℕ) : Type 0 where
   pub row : u + s * period (g .line) < g .height
   pub left : z ≤ g .width + drift (g .line) s
   pub right : drift (g .line) s < z
@@ -75,18 +75,18 @@ module _ (g : Grid) (sized : Sized g) where
       (or-true _ _ (f .passes (omega arith)))))
 
   -- the steps from the entry up to where the line leaves are those in the page
-  pub on-page : (u z s : ℕ) → entry g z ≤ s → s < leave g u z → OnPage g u z s
+  pub on-page : (u z s : ℕ) → entry g z ≤ s → s < leave g u z → StepOnPage g u z s
   on-page u z s h k =
       let b = before-leave u z s k in
       let r : s ≤ s * period (g .line) = step-rows s in
       record { row = b .0; left = entry-at z s h (omega arith); right = b .1 }
 
-  pub on-line : (u z s : ℕ) → OnPage g u z s → (entry g z ≤ s) × (s < leave g u z)
+  pub on-line : (u z s : ℕ) → StepOnPage g u z s → (entry g z ≤ s) × (s < leave g u z)
   on-line u z s o = (entry-by z s (o .left), leave-after u z s (o .row) (o .right))
 
   -- ---- a step of a line as a pixel
 
-  module _ (u z s : ℕ) (small : u < period (g .line)) (there : OnPage g u z s) where
+  module _ (u z s : ℕ) (small : u < period (g .line)) (there : StepOnPage g u z s) where
     pub row-fits : rowAt g u s < g .height
     unfolding rowAt
     row-fits = there .row
@@ -158,7 +158,7 @@ module _ (g : Grid) (sized : Sized g) where
     unfolding rowAt
     row-sum = row-again
 
-    pub own-step : OnPage g (startRow g R) (lineName g R x) (stepOf (g .line) R)
+    pub own-step : StepOnPage g (startRow g R) (lineName g R x) (stepOf (g .line) R)
     unfolding lineName
     own-step = record { row = omega (arith, row-sum); left = omega arith; right = omega arith }
 
@@ -177,7 +177,7 @@ module _ (g : Grid) (sized : Sized g) where
         omega arith
 
   -- a step that is not in the page has no place
-  pub spot-off : (u z s : ℕ) → (OnPage g u z s → ⊥) → spot g u z s ≡ g .height * g .width
+  pub spot-off : (u z s : ℕ) → (StepOnPage g u z s → ⊥) → spot g u z s ≡ g .height * g .width
   unfolding spot
   spot-off u z s off =
       by-cases (decLe (entry g z) s)
@@ -191,12 +191,12 @@ module _ (g : Grid) (sized : Sized g) where
       below h = omega arith
 
   -- a step has its place below the page's size, or the page's size for none
-  pub spot-below : (u z s : ℕ) → u < period (g .line) → OnPage g u z s → spot g u z s < g .height * g .width
+  pub spot-below : (u z s : ℕ) → u < period (g .line) → StepOnPage g u z s → spot g u z s < g .height * g .width
   spot-below u z s small there =
       let rows : suc (rowAt g u s) * g .width ≤ g .height * g .width = mul-le-mul-right (g .width) (row-fits u z s small there) in
       omega (arith, spot-on u z s small there, column-fits u z s small there, suc-mul (rowAt g u s) (g .width))
 
-  pub spot-there : (u z s : ℕ) → (spot g u z s ≡ g .height * g .width → ⊥) → OnPage g u z s
+  pub spot-there : (u z s : ℕ) → (spot g u z s ≡ g .height * g .width → ⊥) → StepOnPage g u z s
   spot-there u z s h =
       by-cases (decLe (entry g z) s)
       (λ low. by-cases (decLt s (leave g u z)) (λ high. on-page u z s low high) (λ k. absurd (h (spot-off u z s (λ o. k (on-line u z s o .1))))))

@@ -11,7 +11,7 @@ use lib.ListN.{length, getD}
 use lib.Dec.{eqb, leb, ltb}
 use Rattle.runs.specs.Span.{chosen}
 use Rattle.runs.specs.Grid.{startRow, lineName, entry, Sized, Tabled}
-use Rattle.runs.specs.GridLaws.{OnPage}
+use Rattle.runs.specs.GridLaws.{StepOnPage}
 use Rattle.runs.specs.Scratch.{Kept, size, total}
 use Rattle.geometry.specs.Drift.{drift, reach}
 use Rattle.geometry.specs.Line.{stepOf}
@@ -66,8 +66,8 @@ pub record EdgeAt (g : Grid) (R t e less hi x : ℕ) : Type 0 where
 -- the first column whose line leaves the page within b steps
 pub record FarEdge (g : Grid) (R t b x : ℕ) : Type 0 where
   pub most : x ≤ g .width
-  pub left : (y : ℕ) → y < x → OnPage g (startRow g R) (lineName g R y) (t + b)
-  pub right : (y : ℕ) → x ≤ y → y < g .width → OnPage g (startRow g R) (lineName g R y) (t + b) → ⊥
+  pub left : (y : ℕ) → y < x → StepOnPage g (startRow g R) (lineName g R y) (t + b)
+  pub right : (y : ℕ) → x ≤ y → y < g .width → StepOnPage g (startRow g R) (lineName g R y) (t + b) → ⊥
 
 -- the place in a page of the pixel b steps on from column 0
 unfoldable pub placeOn : Grid → ℕ → ℕ → ℕ → ℕ
@@ -81,14 +81,14 @@ placeAt g R t s x = (R - t * g .period + s * g .period) * g .width + (x + drift 
 pub record StepEdge (g : Grid) (R t lo s x : ℕ) : Type 0 where
   pub least : lo ≤ x
   pub most : x ≤ g .width
-  pub left : (y : ℕ) → lo ≤ y → y < x → OnPage g (startRow g R) (lineName g R y) s
-  pub right : (y : ℕ) → x ≤ y → y < g .width → OnPage g (startRow g R) (lineName g R y) s → ⊥
+  pub left : (y : ℕ) → lo ≤ y → y < x → StepOnPage g (startRow g R) (lineName g R y) s
+  pub right : (y : ℕ) → x ≤ y → y < g .width → StepOnPage g (startRow g R) (lineName g R y) s → ⊥
 
 -- columns from mid on whose lines entered in the first row, and whose windows end past the line
 pub record PastLine (g : Grid) (R t mid : ℕ) : Type 0 where
   pub most : mid ≤ g .width
   pub entered : mid < g .width → drift (g .line) t ≤ mid
-  pub past : (y : ℕ) → mid ≤ y → y < g .width → OnPage g (startRow g R) (lineName g R y) (t + g .on) → ⊥
+  pub past : (y : ℕ) → mid ≤ y → y < g .width → StepOnPage g (startRow g R) (lineName g R y) (t + g .on) → ⊥
 
 -- the marks: for lines that have drifted v places when they enter, their entry's place in a block, the last v
 -- first; and behind them some of the lines that enter in the first row, whose entry's place is 0

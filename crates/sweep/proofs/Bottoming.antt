@@ -13,7 +13,7 @@ use borrow.Author.Tests.{le-leb, lt-leb, lt-ltb, le-ltb}
 use Rattle.geometry.specs.Drift.{drift}
 use Rattle.runs.specs.Span.{chosen}
 use Rattle.runs.specs.Grid.{Page, Pixel, startRow, lineName, rowAt, columnAt, number, toEndAt, fromStartAt}
-use Rattle.runs.specs.GridLaws.{OnPage, row-fits}
+use Rattle.runs.specs.GridLaws.{StepOnPage, row-fits}
 use Rattle.runs.specs.Scratch.{size, total}
 use Rattle.sweep.specs.Sweeps.{Ready, PartDone, target, newAt, costAt, windowRows}
 use Rattle.sweep.specs.Bottom.{AtBottom, Begun, WithinAt}
@@ -102,10 +102,10 @@ module _ (g : Grid) (profile reaches : List ℕ) (R t : ℕ) (at : Row g profile
     at-y : Pixel g profile reaches R t y
     at-y = pixel g profile reaches R t at y column
 
-    there : OnPage g (startRow g R) (lineName g R y) (t + b)
+    there : StepOnPage g (startRow g R) (lineName g R y) (t + b)
     there = low .there y l h
 
-    off : OnPage g (startRow g R) (lineName g R y) (t + suc b) → ⊥
+    off : StepOnPage g (startRow g R) (lineName g R y) (t + suc b) → ⊥
     off o = let r = o .row in omega (arith, row-on g profile reaches R t at (suc b), low .bottom)
 
     cut : b ≤ g .on
@@ -129,7 +129,7 @@ module _ (g : Grid) (profile reaches : List ℕ) (R t : ℕ) (at : Row g profile
       reached : g .back ≤ number g R y
       reached = omega (arith, from-entry g profile reaches R t at y column)
 
-      pub begins : OnPage g (startRow g R) (lineName g R y) (t - g .back)
+      pub begins : StepOnPage g (startRow g R) (lineName g R y) (t - g .back)
       begins = start g profile reaches R t y at-y reached
 
       -- page B at the window's first

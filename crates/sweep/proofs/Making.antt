@@ -12,7 +12,7 @@ use Rattle.runs.specs.Span.{chosen}
 use Rattle.runs.specs.Block.{fromStart, toEnd, windowed, resulting}
 use Rattle.runs.specs.BlockLaws.{fromStart-first, fromStart-next, toEnd-last, toEnd-next, rightward-first, rightward-next, leftward-last, leftward-next, result-whole, result-block, result-across, result-cut, result-short, result-within, result-last, result-early, result-all, result-short-line}
 use Rattle.runs.specs.Grid.{Page, Pixel, startRow, lineName, entry, leave, steps, rowAt, columnAt, along, number, lineSteps, toEndAt, fromStartAt, windowedAt, rightwardAt, leftwardAt, resultingAt}
-use Rattle.runs.specs.GridLaws.{OnPage, on-line, on-page, own-step, start-small, row-again, column-again, number-is, number-below, page-on, toEnd-on, fromStart-on}
+use Rattle.runs.specs.GridLaws.{StepOnPage, on-line, on-page, own-step, start-small, row-again, column-again, number-is, number-below, page-on, toEnd-on, fromStart-on}
 use Rattle.runs.specs.declared.Grid.{Grid}
 use Rattle.runs.proofs.Bounds.{some-length}
 
@@ -29,8 +29,8 @@ module _ (g : Grid) (profile reaches : List ℕ) (R t x : ℕ) (at : Pixel g pro
   pub long : 0 < g .length
   long = some-length (at .sized)
 
-  pub own : OnPage g u z t
-  own = subst (OnPage g u z) (sym (at .step)) (own-step g (at .sized) R x (at .row) (at .column))
+  pub own : StepOnPage g u z t
+  own = subst (StepOnPage g u z) (sym (at .step)) (own-step g (at .sized) R x (at .row) (at .column))
 
   -- the pixel's step is its number after the entry
   pub numbered : entry g z + number g R x ≡ t
@@ -47,7 +47,7 @@ module _ (g : Grid) (profile reaches : List ℕ) (R t x : ℕ) (at : Pixel g pro
       ∙ ap₂ f (row-again g (at .sized) R x (at .row) (at .column)) (column-again g (at .sized) R x (at .row) (at .column))
 
   -- where a step of the line is in the page, its number is in the line
-  module _ (s : ℕ) (there : OnPage g u z s) where
+  module _ (s : ℕ) (there : StepOnPage g u z s) where
     pub entered : entry g z ≤ s
     entered = on-line g (at .sized) u z s there .0
 
@@ -59,12 +59,12 @@ module _ (g : Grid) (profile reaches : List ℕ) (R t x : ℕ) (at : Pixel g pro
         omega arith
 
   -- past the entry, a step that is not in the page is past the line's last
-  pub past : (s : ℕ) → entry g z ≤ s → (OnPage g u z s → ⊥) → lineSteps g R x ≤ s - entry g z
+  pub past : (s : ℕ) → entry g z ≤ s → (StepOnPage g u z s → ⊥) → lineSteps g R x ≤ s - entry g z
   unfolding lineSteps steps
   past s h off = by-cases (decLt s (leave g u z)) (λ k. absurd (off (on-page g (at .sized) u z s h k))) (λ k. omega arith)
 
   -- the line's last step, b steps on
-  last-step : (b : ℕ) → OnPage g u z (t + b) → (OnPage g u z (t + suc b) → ⊥) → lineSteps g R x ≡ suc (number g R x + b)
+  last-step : (b : ℕ) → StepOnPage g u z (t + b) → (StepOnPage g u z (t + suc b) → ⊥) → lineSteps g R x ≡ suc (number g R x + b)
   last-step b there off = omega (arith, numbered, counted (t + b) there, past (t + suc b) (omega (arith, numbered)) off)
 
   -- ---- backward
@@ -78,12 +78,12 @@ module _ (g : Grid) (profile reaches : List ℕ) (R t x : ℕ) (at : Pixel g pro
   unfolding leftwardAt
   back-last-cost ends = leftward-last (g .length) (lineSteps g R x) (number g R x) ends
 
-  pub no-next : (OnPage g u z (t + 1) → ⊥) → suc (number g R x) ≡ lineSteps g R x
+  pub no-next : (StepOnPage g u z (t + 1) → ⊥) → suc (number g R x) ≡ lineSteps g R x
   no-next off =
       let far : lineSteps g R x ≤ t + 1 - entry g z = past (t + 1) (omega (arith, numbered)) off in
       omega (arith, numbered, in-line)
 
-  module _ (going : 0 < suc (number g R x) % g .length) (next : OnPage g u z (t + 1)) where
+  module _ (going : 0 < suc (number g R x) % g .length) (next : StepOnPage g u z (t + 1)) where
     pub back-next : (f : Page) → chosen (g .low) (f R x) (toEndAt g f (rowAt g u (t + 1)) (columnAt g z (t + 1))) ≡ toEndAt g f R x
     unfolding toEndAt lineSteps
     back-next f =
@@ -113,7 +113,7 @@ module _ (g : Grid) (profile reaches : List ℕ) (R t x : ℕ) (at : Pixel g pro
     later = omega (arith, mod-le (number g R x) (g .length))
 
     -- the step before is in the page
-    pub before : OnPage g u z (t - 1)
+    pub before : StepOnPage g u z (t - 1)
     before =
         on-page g (at .sized) u z (t - 1) (omega (arith, numbered, later)) (omega (arith, line-leaves))
       where
@@ -155,7 +155,7 @@ module _ (g : Grid) (profile reaches : List ℕ) (R t x : ℕ) (at : Pixel g pro
       sym (r .1) ∙ ap (resulting (g .length) (lineSteps g R x) (g .back) (g .on)) apart,
     )
 
-    pub start : OnPage g u z (t - g .back)
+    pub start : StepOnPage g u z (t - g .back)
     start = on-page g (at .sized) u z (t - g .back) (omega (arith, numbered)) (omega (arith, on-line g (at .sized) u z t own .1))
 
     start-is : t - g .back - entry g z ≡ first
@@ -172,7 +172,7 @@ module _ (g : Grid) (profile reaches : List ℕ) (R t x : ℕ) (at : Pixel g pro
         moved f _ _ (r .0 ∙ rest f, r .1)
 
     -- where such a window ends in the line, the extreme from its block's start is all of it
-    pub made-block : (f : Page) → first % g .length ≡ 0 → OnPage g u z (t + g .on)
+    pub made-block : (f : Page) → first % g .length ≡ 0 → StepOnPage g u z (t + g .on)
         → (fromStartAt g f (rowAt g u (t + g .on)) (columnAt g z (t + g .on)) ≡ windowedAt g f R x) × (0 ≡ resultingAt g R x)
     made-block f e ends =
         let far : t + g .on - entry g z < lineSteps g R x = counted (t + g .on) ends in
@@ -183,7 +183,7 @@ module _ (g : Grid) (profile reaches : List ℕ) (R t x : ℕ) (at : Pixel g pro
 
     module _ (inside : 0 < first % g .length) where
       -- where the window ends in the line, the next block gives the rest
-      pub made-across : (f : Page) → OnPage g u z (t + g .on)
+      pub made-across : (f : Page) → StepOnPage g u z (t + g .on)
           → (chosen (g .low) (toEndAt g f (rowAt g u (t - g .back)) (columnAt g z (t - g .back))) (fromStartAt g f (rowAt g u (t + g .on)) (columnAt g z (t + g .on))) ≡ windowedAt g f R x)
           × (1 ≡ resultingAt g R x)
       made-across f ends =
@@ -201,13 +201,13 @@ module _ (g : Grid) (profile reaches : List ℕ) (R t x : ℕ) (at : Pixel g pro
       following-is : following - entry g z + first % g .length ≡ first + g .length
       following-is = omega (arith, numbered, mod-lt first long)
 
-      module _ (ends : OnPage g u z (t + g .on) → ⊥) where
+      module _ (ends : StepOnPage g u z (t + g .on) → ⊥) where
         cut : lineSteps g R x ≤ first + g .back + g .on
         cut =
             let far : lineSteps g R x ≤ t + g .on - entry g z = past (t + g .on) (omega (arith, numbered)) ends in
             omega (arith, numbered)
 
-        pub made-cut : (f : Page) → OnPage g u z following
+        pub made-cut : (f : Page) → StepOnPage g u z following
             → (chosen (g .low) (toEndAt g f (rowAt g u (t - g .back)) (columnAt g z (t - g .back))) (toEndAt g f (rowAt g u following) (columnAt g z following)) ≡ windowedAt g f R x)
             × (1 ≡ resultingAt g R x)
         unfolding lineSteps
@@ -215,7 +215,7 @@ module _ (g : Grid) (profile reaches : List ℕ) (R t x : ℕ) (at : Pixel g pro
             let r = result-cut (g .length) (lineSteps g R x) (g .back) (g .on) first (at .sized .length-is) (g .low) (along g f u z) fits (following - entry g z) following-is inside cut (counted following next) in
             moved f _ _ (r .0 ∙ ap₂ (chosen (g .low)) (rest f) (sym (toEnd-on g (at .sized) u z following small next f)), r .1)
 
-      pub made-short : (f : Page) → (OnPage g u z following → ⊥)
+      pub made-short : (f : Page) → (StepOnPage g u z following → ⊥)
           → (toEndAt g f (rowAt g u (t - g .back)) (columnAt g z (t - g .back)) ≡ windowedAt g f R x) × (0 ≡ resultingAt g R x)
       made-short f next =
           let far : lineSteps g R x ≤ following - entry g z = past following (omega (arith, numbered)) next in
@@ -223,7 +223,7 @@ module _ (g : Grid) (profile reaches : List ℕ) (R t x : ℕ) (at : Pixel g pro
           moved f _ _ (r .0 ∙ rest f, r .1)
 
     -- the window ends past the line's last step, which is b steps on
-    module _ (b : ℕ) (cut : b ≤ g .on) (there : OnPage g u z (t + b)) (off : OnPage g u z (t + suc b) → ⊥) where
+    module _ (b : ℕ) (cut : b ≤ g .on) (there : StepOnPage g u z (t + b)) (off : StepOnPage g u z (t + suc b) → ⊥) where
       ended : lineSteps g R x ≡ suc (first + (g .back + b))
       ended = omega (arith, numbered, last-step b there off)
 
@@ -251,17 +251,17 @@ module _ (g : Grid) (profile reaches : List ℕ) (R t x : ℕ) (at : Pixel g pro
     unfolding windowedAt resultingAt
     told f v c r = (sym (r .0), sym (r .1))
 
-    pub made-early : (f : Page) → OnPage g u z (t + g .on) → (fromStartAt g f (rowAt g u (t + g .on)) (columnAt g z (t + g .on)) ≡ windowedAt g f R x) × (0 ≡ resultingAt g R x)
+    pub made-early : (f : Page) → StepOnPage g u z (t + g .on) → (fromStartAt g f (rowAt g u (t + g .on)) (columnAt g z (t + g .on)) ≡ windowedAt g f R x) × (0 ≡ resultingAt g R x)
     made-early f ends =
         let far : t + g .on - entry g z < lineSteps g R x = counted (t + g .on) ends in
         let last : t + g .on - entry g z ≡ number g R x + g .on = omega (arith, numbered) in
         let r = result-early (g .length) (lineSteps g R x) (g .back) (g .on) (number g R x) (at .sized .length-is) early in-line (g .low) (along g f u z) (omega arith) in
         told f _ _ (r .0 ∙ ap (fromStart (g .low) (g .length) (along g f u z)) (sym last) ∙ sym (fromStart-on g (at .sized) u z (t + g .on) small ends f), r .1)
 
-    pub entering : OnPage g u z (entry g z)
+    pub entering : StepOnPage g u z (entry g z)
     entering = on-page g (at .sized) u z (entry g z) (omega arith) (omega (arith, numbered, on-line g (at .sized) u z t own .1))
 
-    pub made-all : (f : Page) → (OnPage g u z (t + g .on) → ⊥) → (toEndAt g f (rowAt g u (entry g z)) (columnAt g z (entry g z)) ≡ windowedAt g f R x) × (0 ≡ resultingAt g R x)
+    pub made-all : (f : Page) → (StepOnPage g u z (t + g .on) → ⊥) → (toEndAt g f (rowAt g u (entry g z)) (columnAt g z (entry g z)) ≡ windowedAt g f R x) × (0 ≡ resultingAt g R x)
     unfolding lineSteps
     made-all f ends =
         let far : lineSteps g R x ≤ t + g .on - entry g z = past (t + g .on) (omega (arith, numbered)) ends in
@@ -269,7 +269,7 @@ module _ (g : Grid) (profile reaches : List ℕ) (R t x : ℕ) (at : Pixel g pro
         let r = result-all (g .length) (lineSteps g R x) (g .back) (g .on) (number g R x) (at .sized .length-is) early in-line (g .low) (along g f u z) (omega (arith, numbered)) in
         told f _ _ (r .0 ∙ ap (toEnd (g .low) (g .length) (steps g u z) (along g f u z)) (sym none) ∙ sym (toEnd-on g (at .sized) u z (entry g z) small entering f), r .1)
 
-    pub made-short-line : (f : Page) (b : ℕ) → b ≤ g .on → OnPage g u z (t + b) → (OnPage g u z (t + suc b) → ⊥)
+    pub made-short-line : (f : Page) (b : ℕ) → b ≤ g .on → StepOnPage g u z (t + b) → (StepOnPage g u z (t + suc b) → ⊥)
         → (fromStartAt g f (rowAt g u (t + b)) (columnAt g z (t + b)) ≡ windowedAt g f R x) × (0 ≡ resultingAt g R x)
     made-short-line f b cut there off =
         let last : number g R x + b ≡ t + b - entry g z = omega (arith, numbered) in

@@ -7,7 +7,7 @@ use native.Mathlib.Omega.{arith}
 use Rattle.geometry.specs.Line.{period}
 use Rattle.geometry.specs.Drift.{drift}
 use Rattle.runs.specs.Grid.{startRow, lineName, rowAt, columnAt, number, spot}
-use Rattle.runs.specs.GridLaws.{OnPage, spot-on}
+use Rattle.runs.specs.GridLaws.{StepOnPage, spot-on}
 use Rattle.runs.specs.Scratch.{size}
 use Rattle.runs.specs.Runs.{Row, FarEdge, entryAt, placeOn}
 use Rattle.runs.specs.declared.Grid.{Grid}
@@ -31,7 +31,7 @@ module _ (g : Grid) (profile reaches : List ℕ) (R t : ℕ) (at : Row g profile
     small = making.small g profile reaches R t y (pixel g profile reaches R t at y column)
 
     -- b steps on
-    pub spot-ahead : (b : ℕ) → OnPage g (startRow g R) (lineName g R y) (t + b) → placeOn g R t b + y ≡ spot g (startRow g R) (lineName g R y) (t + b)
+    pub spot-ahead : (b : ℕ) → StepOnPage g (startRow g R) (lineName g R y) (t + b) → placeOn g R t b + y ≡ spot g (startRow g R) (lineName g R y) (t + b)
     unfolding placeOn rowAt columnAt
     spot-ahead b there =
         ap (λ (q : ℕ). q * g .width + (drift (g .line) (t + b) - drift (g .line) t) + y) rows
@@ -47,7 +47,7 @@ module _ (g : Grid) (profile reaches : List ℕ) (R t : ℕ) (at : Row g profile
             omega (arith, name g profile reaches R t at y column)
 
     -- a steps back, where lo columns are lost on the way
-    pub spot-behind : (a lo : ℕ) → a ≤ t → lo + drift (g .line) (t - a) ≡ drift (g .line) t → lo ≤ y → OnPage g (startRow g R) (lineName g R y) (t - a)
+    pub spot-behind : (a lo : ℕ) → a ≤ t → lo + drift (g .line) (t - a) ≡ drift (g .line) t → lo ≤ y → StepOnPage g (startRow g R) (lineName g R y) (t - a)
         → (R - a * g .period) * g .width + (y - lo) ≡ spot g (startRow g R) (lineName g R y) (t - a)
     unfolding rowAt columnAt
     spot-behind a lo h lost inside there =

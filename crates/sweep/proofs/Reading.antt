@@ -8,7 +8,7 @@ use lib.ListN.{getD}
 use Rattle.geometry.specs.Line.{period}
 use Rattle.geometry.specs.Laws.{period-forward}
 use Rattle.runs.specs.Grid.{Page, Pixel, rowAt, columnAt, number, toEndAt, spot}
-use Rattle.runs.specs.GridLaws.{OnPage, row-fits, column-fits, row-again, column-again, spot-on}
+use Rattle.runs.specs.GridLaws.{StepOnPage, row-fits, column-fits, row-again, column-again, spot-on}
 use Rattle.runs.specs.Scratch.{size}
 use Rattle.sweep.specs.Sweeps.{RowsHold, Across}
 use Rattle.runs.specs.declared.Grid.{Grid}
@@ -53,7 +53,7 @@ module _ (g : Grid) (profile reaches : List ℕ) (R t x : ℕ) (at : Pixel g pro
   unfolding rowAt
   row-on b = omega (arith, own-row, add-mul t b (period (g .line)), ap (λ (q : ℕ). b * q) (at .sized .period-is))
 
-  module _ (bytes : List ℕ) (f : Page) (lo hi s : ℕ) (there : OnPage g u₀ z₀ s) (low : lo ≤ rowAt g u₀ s) (high : rowAt g u₀ s < hi) where
+  module _ (bytes : List ℕ) (f : Page) (lo hi s : ℕ) (there : StepOnPage g u₀ z₀ s) (low : lo ≤ rowAt g u₀ s) (high : rowAt g u₀ s < hi) where
     pub read-B : RowsHold bytes (size g) g f lo hi → getD bytes (size g + spot g u₀ z₀ s) 0 ≡ f (rowAt g u₀ s) (columnAt g z₀ s)
     unfolding RowsHold
     read-B holds =
@@ -67,7 +67,7 @@ module _ (g : Grid) (profile reaches : List ℕ) (R t x : ℕ) (at : Pixel g pro
         ∙ holds (rowAt g u₀ s) low high (columnAt g z₀ s) (column-fits g (at .sized) u₀ z₀ s (small g profile reaches R t x at) there)
 
   -- in A at a step on from the pixel: lower rows, or the pixel itself
-  pub read-on : (bytes : List ℕ) (f : Page) (b : ℕ) → OnPage g u₀ z₀ (t + b) → getD bytes (R * g .width + x) 0 ≡ f R x → RowsHold bytes 0 g f (suc R) (min (g .height) (suc (R + b * g .period)))
+  pub read-on : (bytes : List ℕ) (f : Page) (b : ℕ) → StepOnPage g u₀ z₀ (t + b) → getD bytes (R * g .width + x) 0 ≡ f R x → RowsHold bytes 0 g f (suc R) (min (g .height) (suc (R + b * g .period)))
       → getD bytes (spot g u₀ z₀ (t + b)) 0 ≡ f (rowAt g u₀ (t + b)) (columnAt g z₀ (t + b))
   read-on bytes f zero there own rows =
       let here : t + 0 ≡ t = add-zero t in
@@ -80,7 +80,7 @@ module _ (g : Grid) (profile reaches : List ℕ) (R t x : ℕ) (at : Pixel g pro
       read-A bytes f (suc R) (min (g .height) (suc (R + suc b * g .period))) (t + suc b) there (row-later (t + suc b) (omega arith)) (omega (arith, row-fits g (at .sized) u₀ z₀ (t + suc b) (small g profile reaches R t x at) there, row-on (suc b))) rows
 
   -- the same where rows further on are there too
-  pub read-within : (bytes : List ℕ) (f : Page) (b on : ℕ) → b ≤ on → OnPage g u₀ z₀ (t + b) → getD bytes (R * g .width + x) 0 ≡ f R x → RowsHold bytes 0 g f (suc R) (min (g .height) (suc (R + on * g .period)))
+  pub read-within : (bytes : List ℕ) (f : Page) (b on : ℕ) → b ≤ on → StepOnPage g u₀ z₀ (t + b) → getD bytes (R * g .width + x) 0 ≡ f R x → RowsHold bytes 0 g f (suc R) (min (g .height) (suc (R + on * g .period)))
       → getD bytes (spot g u₀ z₀ (t + b)) 0 ≡ f (rowAt g u₀ (t + b)) (columnAt g z₀ (t + b))
   unfolding RowsHold
   read-within bytes f b on near there own rows =

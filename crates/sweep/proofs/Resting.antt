@@ -11,7 +11,7 @@ use Rattle.geometry.specs.Drift.{drift}
 use Rattle.geometry.specs.Laws.{period-forward, drift-rises, drift-bound}
 use Rattle.runs.specs.Span.{chosen}
 use Rattle.runs.specs.Grid.{Pixel, startRow, lineName, entry, rowAt, columnAt, number, spot}
-use Rattle.runs.specs.GridLaws.{OnPage, row-fits, spot-on}
+use Rattle.runs.specs.GridLaws.{StepOnPage, row-fits, spot-on}
 use Rattle.runs.specs.Scratch.{size}
 use Rattle.sweep.specs.Sweeps.{Ready, PartDone, target, newAt, costAt}
 use Rattle.runs.specs.Runs.{Row, Copied, Chosen, entryAt, placeAt, StepEdge, PastLine}
@@ -53,7 +53,7 @@ module _ (g : Grid) (profile reaches : List ℕ) (R t : ℕ) (at : Row g profile
       omega (arith, row-room (R - t * g .period + s * g .period) (omega (arith, back-row s h, at .row)))
 
   -- the places of a step of columns up to one whose line has it
-  pub place-fits : (s lo hi : ℕ) → lo < hi → hi ≤ g .width → drift (g .line) t ≤ lo + drift (g .line) s → OnPage g (startRow g R) (lineName g R (hi - 1)) s → placeAt g R t s lo + (hi - lo) ≤ size g
+  pub place-fits : (s lo hi : ℕ) → lo < hi → hi ≤ g .width → drift (g .line) t ≤ lo + drift (g .line) s → StepOnPage g (startRow g R) (lineName g R (hi - 1)) s → placeAt g R t s lo + (hi - lo) ≤ size g
   unfolding placeAt
   place-fits s lo hi some most reached last =
       omega (arith, row-room (R - t * g .period + s * g .period) (omega (arith, last .row, target-is g profile reaches R t at s)), last .right, last .left, name g profile reaches R t at (hi - 1) (omega arith))
@@ -87,7 +87,7 @@ module _ (g : Grid) (profile reaches : List ℕ) (R t : ℕ) (at : Row g profile
           }
 
     module _ (hi : ℕ) (edge : StepEdge g R t lo s hi) (some : lo < hi) where
-      last : OnPage g (startRow g R) (lineName g R (hi - 1)) s
+      last : StepOnPage g (startRow g R) (lineName g R (hi - 1)) s
       last = edge .left (hi - 1) (omega arith) (omega arith)
 
       pub edge-row : R - t * g .period + s * g .period < g .height
@@ -101,7 +101,7 @@ module _ (g : Grid) (profile reaches : List ℕ) (R t : ℕ) (at : Row g profile
   place-shift s lo y on reached = omega arith
 
   module _ (y : ℕ) (column : y < g .width) where
-    pub place-is : (s : ℕ) → OnPage g (startRow g R) (lineName g R y) s → placeAt g R t s y ≡ spot g (startRow g R) (lineName g R y) s
+    pub place-is : (s : ℕ) → StepOnPage g (startRow g R) (lineName g R y) s → placeAt g R t s y ≡ spot g (startRow g R) (lineName g R y) s
     unfolding placeAt rowAt columnAt
     place-is s there =
         ap₂ (λ (r c : ℕ). r * g .width + c) (target-is g profile reaches R t at s) columns
@@ -118,7 +118,7 @@ module _ (g : Grid) (profile reaches : List ℕ) (R t : ℕ) (at : Row g profile
     pub number-all : number g R y ≡ t
     number-all = omega (arith, from-entry g profile reaches R t at y column, entered-first)
 
-  module _ (old : List ℕ) (mid : ℕ) (most : mid ≤ g .width) (reached : drift (g .line) t ≤ mid) (y : ℕ) (on : mid ≤ y) (column : y < g .width) (past : OnPage g (startRow g R) (lineName g R y) (t + g .on) → ⊥) where
+  module _ (old : List ℕ) (mid : ℕ) (most : mid ≤ g .width) (reached : drift (g .line) t ≤ mid) (y : ℕ) (on : mid ≤ y) (column : y < g .width) (past : StepOnPage g (startRow g R) (lineName g R y) (t + g .on) → ⊥) where
     at-y : Pixel g profile reaches R t y
     at-y = pixel g profile reaches R t at y column
 
@@ -129,7 +129,7 @@ module _ (g : Grid) (profile reaches : List ℕ) (R t : ℕ) (at : Row g profile
     all = number-all y column reached-y
 
     -- page B at a step of the line
-    read : (s : ℕ) → OnPage g (startRow g R) (lineName g R y) s → size g + placeAt g R t s mid + (y - mid) ≡ size g + spot g (startRow g R) (lineName g R y) s
+    read : (s : ℕ) → StepOnPage g (startRow g R) (lineName g R y) s → size g + placeAt g R t s mid + (y - mid) ≡ size g + spot g (startRow g R) (lineName g R y) s
     read s there =
         let sum : size g + placeAt g R t s mid + (y - mid) ≡ size g + (placeAt g R t s mid + (y - mid)) = omega arith in
         sum ∙ ap (λ (q : ℕ). size g + q) (place-shift s mid y on (omega arith) ∙ place-is y column s there)
@@ -153,7 +153,7 @@ module _ (g : Grid) (profile reaches : List ℕ) (R t : ℕ) (at : Row g profile
       in-line : g .back ≤ number g R y
       in-line = omega (arith, all)
 
-      begins : OnPage g (startRow g R) (lineName g R y) (t - g .back)
+      begins : StepOnPage g (startRow g R) (lineName g R y) (t - g .back)
       begins = start g profile reaches R t y at-y in-line
 
       first-is : (number g R y - g .back) % g .length ≡ (t - g .back) % g .length
@@ -177,11 +177,11 @@ module _ (g : Grid) (profile reaches : List ℕ) (R t : ℕ) (at : Row g profile
         next-is : next ≡ following g profile reaches R t y at-y in-line inside
         next-is = is ∙ ap (λ (q : ℕ). t - g .back + (g .length - q)) (sym first-is)
 
-        pub cut-charged : OnPage g (startRow g R) (lineName g R y) next
+        pub cut-charged : StepOnPage g (startRow g R) (lineName g R y) next
             → Charged Result g R old (chosen (g .low) (getD old (size g + placeAt g R t (t - g .back) mid + (y - mid)) 0) (getD old (size g + placeAt g R t next mid + (y - mid)) 0)) y
         unfolding Ready newAt costAt
         cut-charged there =
-            let after = subst (OnPage g (startRow g R) (lineName g R y)) next-is there in (
+            let after = subst (StepOnPage g (startRow g R) (lineName g R y)) next-is there in (
               λ f ready.
                   ap₂ (chosen (g .low))
                   (ap (λ (i : ℕ). getD old i 0) (read (t - g .back) begins)
@@ -192,10 +192,10 @@ module _ (g : Grid) (profile reaches : List ℕ) (R t : ℕ) (at : Row g profile
               made-cut g profile reaches R t y at-y in-line inside past (λ R x. 0) after .1,
             )
 
-        pub short-free : (OnPage g (startRow g R) (lineName g R y) next → ⊥) → Free Result g R old (getD old (size g + placeAt g R t (t - g .back) mid + (y - mid)) 0) y
+        pub short-free : (StepOnPage g (startRow g R) (lineName g R y) next → ⊥) → Free Result g R old (getD old (size g + placeAt g R t (t - g .back) mid + (y - mid)) 0) y
         unfolding Ready newAt costAt
         short-free off =
-            let gone : OnPage g (startRow g R) (lineName g R y) (following g profile reaches R t y at-y in-line inside) → ⊥ = λ there. off (subst (OnPage g (startRow g R) (lineName g R y)) (sym next-is) there) in (
+            let gone : StepOnPage g (startRow g R) (lineName g R y) (following g profile reaches R t y at-y in-line inside) → ⊥ = λ there. off (subst (StepOnPage g (startRow g R) (lineName g R y)) (sym next-is) there) in (
               λ f ready.
                   ap (λ (i : ℕ). getD old i 0) (read (t - g .back) begins)
                   ∙ read-B g profile reaches R t y at-y old _ 0 (g .height) _ begins zero-le (row-fits g (at .sized) _ _ _ (small g profile reaches R t y at-y) begins) (ready .2)

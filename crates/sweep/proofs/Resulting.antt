@@ -8,7 +8,7 @@ use native.Mathlib.Omega.{arith}
 use lib.ListN.{getD}
 use Rattle.runs.specs.Span.{chosen, chosen-comm}
 use Rattle.runs.specs.Grid.{startRow, lineName, number, spot}
-use Rattle.runs.specs.GridLaws.{OnPage, row-fits}
+use Rattle.runs.specs.GridLaws.{StepOnPage, row-fits}
 use Rattle.runs.specs.Scratch.{size}
 use Rattle.sweep.specs.Sweeps.{Ready, PartDone, target, newAt, costAt, windowRows}
 use Rattle.runs.specs.Runs.{Row, EdgeAt, FarEdge, Copied, placeOn, entryAt, inBlock, Planned, Walked, ResultPlan}
@@ -82,7 +82,7 @@ module _ (g : Grid) (profile reaches : List ℕ) (R t : ℕ) (at : Row g profile
       unfolding inBlock
       in-number = ap (λ (q : ℕ). q % g .length) (omega (arith, plan .top-is, entered-by y l h, from-entry g profile reaches R t at y column))
 
-      there : OnPage g (startRow g R) (lineName g R y) (t - g .back)
+      there : StepOnPage g (startRow g R) (lineName g R y) (t - g .back)
       there = start g profile reaches R t y (pixel g profile reaches R t at y column) reached
 
       behind : (place : ℕ) → place ≡ size g + (R - g .back * g .period) * g .width → place + (y - p .lo) ≡ size g + spot g (startRow g R) (lineName g R y) (t - g .back)

@@ -4,7 +4,7 @@ use Prim.Native.Nat.{ℕ, suc, _+_, _-_, _*_, _%_, _≤_, _<_}
 use mathlib.Core.Path.{_≡_}
 use Rattle.geometry.specs.Drift.{drift}
 use Rattle.runs.specs.Grid.{startRow, lineName}
-use Rattle.runs.specs.GridLaws.{OnPage}
+use Rattle.runs.specs.GridLaws.{StepOnPage}
 use Rattle.runs.specs.Runs.{entryAt}
 use Rattle.runs.specs.declared.Grid.{Grid}
 use Rattle.sweep.specs.declared.Within.{Within}
@@ -16,7 +16,7 @@ pub record AtBottom (g : Grid) (R t b lo hi : ℕ) : Type 0 where
   pub side : hi ≤ drift (g .line) t
   pub row : R + b * g .period < g .height
   pub bottom : g .height ≤ R + suc b * g .period
-  pub there : (y : ℕ) → lo ≤ y → y < hi → OnPage g (startRow g R) (lineName g R y) (t + b)
+  pub there : (y : ℕ) → lo ≤ y → y < hi → StepOnPage g (startRow g R) (lineName g R y) (t + b)
   pub past : b < g .on
 
 -- columns from lo up to hi whose windows begin in the line

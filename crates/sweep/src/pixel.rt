@@ -6,7 +6,7 @@ ghost use lib.ListN.{length, getD};
 ghost use lib.Dec.{eqb};
 ghost use Rattle.runs.specs.Span.{chosen};
 ghost use Rattle.runs.specs.Grid.{Page, Sized, Pixel, startRow, lineName, number, windowedAt, resultingAt};
-ghost use Rattle.runs.specs.GridLaws.{OnPage};
+ghost use Rattle.runs.specs.GridLaws.{StepOnPage};
 ghost use Rattle.runs.specs.Scratch.{size};
 ghost use Rattle.sweep.specs.Sweeps.{Ready, Across};
 use super::Made;
@@ -75,7 +75,7 @@ fn early_at(
     x: usize,
 ) -> Made
     requires { ⌜ Pixel g (now profile) (now reaches) row step x × (size g + size g ≤ length (now bytes)) ×
-        (OnPage g (startRow g row) (lineName g row x) (step + g .on) → ⊥) ⌝ }
+        (StepOnPage g (startRow g row) (lineName g row x) (step + g .on) → ⊥) ⌝ }
     requires { ⌜ number g row x < g .back ⌝ }
     ensures { λ r. ⌜ ((f : Page) → Ready Sweep.Result g (now (bytes .entry)) f row x → r .value ≡ windowedAt g f row
         x) × (r .count ≡ resultingAt g row x) ⌝ }
@@ -99,7 +99,7 @@ fn across_at(
     rest: u8,
 ) -> Made
     requires { ⌜ Pixel g (now profile) (now reaches) row step x × (size g + size g ≤ length (now bytes)) ×
-        (OnPage g (startRow g row) (lineName g row x) (step + g .on) → ⊥) ⌝ }
+        (StepOnPage g (startRow g row) (lineName g row x) (step + g .on) → ⊥) ⌝ }
     requires { ⌜ Across g (now bytes) row step x inside rest ⌝ }
     ensures { λ r. ⌜ ((f : Page) → Ready Sweep.Result g (now (bytes .entry)) f row x → r .value ≡ windowedAt g f row
         x) × (r .count ≡ resultingAt g row x) ⌝ }
@@ -131,7 +131,7 @@ fn reached_at(
     from: usize,
 ) -> Made
     requires { ⌜ Pixel g (now profile) (now reaches) row step x × (size g + size g ≤ length (now bytes)) ×
-        (OnPage g (startRow g row) (lineName g row x) (step + g .on) → ⊥) ⌝ }
+        (StepOnPage g (startRow g row) (lineName g row x) (step + g .on) → ⊥) ⌝ }
     requires { ⌜ (from ≡ number g row x) × (g .back ≤ from) ⌝ }
     ensures { λ r. ⌜ ((f : Page) → Ready Sweep.Result g (now (bytes .entry)) f row x → r .value ≡ windowedAt g f row
         x) × (r .count ≡ resultingAt g row x) ⌝ }
@@ -156,7 +156,7 @@ pub fn rest_at(
     x: usize,
 ) -> Made
     requires { ⌜ Pixel g (now profile) (now reaches) row step x × (size g + size g ≤ length (now bytes)) ×
-        (OnPage g (startRow g row) (lineName g row x) (step + g .on) → ⊥) ⌝ }
+        (StepOnPage g (startRow g row) (lineName g row x) (step + g .on) → ⊥) ⌝ }
     ensures { λ r. ⌜ ((f : Page) → Ready Sweep.Result g (now (bytes .entry)) f row x → r .value ≡ windowedAt g f row
         x) × (r .count ≡ resultingAt g row x) ⌝ }
 {

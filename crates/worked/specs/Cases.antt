@@ -43,7 +43,7 @@ use Rattle.filter.specs.Filters.{erosion, dilation, opening, closing}
 use Rattle.filter.specs.Filters.{dilated, opened, closed, operated, filtered, orWhite, recipeBoxes, filteredPage}
 use Rattle.filter.specs.Work.{charged, chargedAt, passWork, erosionWork, dilationWork, workOf}
 use Rattle.job.specs.Order.{lineOf, segmentOf, recipeOf, pagesOf}
-use Rattle.job.specs.Judging.{judgeSides, judgeSource, judgeOutput, judgeScratch, judgeBoxesFrom, judgeBoxes}
+use Rattle.job.specs.Judging.{judgeSides, judgeSource, judgeOutput, judgeScratch, judgePageBoxesFrom, judgePageBoxes}
 use Rattle.job.specs.Judging.{judgePlaces}
 use Rattle.job.specs.Job.{finished, jobWork, jobScratch, answer, lengths, outputAfter, scratchAfter}
 
@@ -433,7 +433,7 @@ unfolding first firstℤ readFirst
     dilated opened closed operated filtered orWhite recipeBoxes filteredPage
     charged chargedAt passWork erosionWork dilationWork workOf
     lineOf segmentOf recipeOf pagesOf
-    judgeSides judgeSource judgeOutput judgeScratch judgeBoxesFrom judgeBoxes judgePlaces
+    judgeSides judgeSource judgeOutput judgeScratch judgePageBoxesFrom judgePageBoxes judgePlaces
     finished jobWork jobScratch answer outputAfter scratchAfter
 computed = refl
 

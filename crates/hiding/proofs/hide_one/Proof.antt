@@ -1,12 +1,10 @@
 -- `hiding::hide_one` meets its contract. Assumes nothing.
-use mathlib.Core.Path.{_≡_, sym, subst}
-use Prim.Native.Nat.{ℕ, _*_, _≤_}
+use mathlib.Core.Path.{sym, subst}
 use native.Mathlib.Omega.{arith}
 use denote.Ref.{now}
 use Rattle.ticket.specs.Reading.{noBox}
 use Rattle.tray.specs.Promises.{RectangleFits, BoxPainted}
 use Rattle.tray.specs.declared.Rectangle.{Rectangle}
-use Rattle.hiding.specs.Hiding.{area}
 use Rattle.hiding.proofs.Painting.{on-page, painted-one}
 use Rattle.hiding.proofs.hide_one.Statement.{statement}
 use Rattle.hiding.proofs.hide_one.Tie as tie

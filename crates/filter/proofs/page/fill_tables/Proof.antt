@@ -1,10 +1,8 @@
 -- `filter::page::fill_tables` meets its contract. Assumes nothing.
-use mathlib.Core.Path.{sym, ap, _∙_, subst}
+use mathlib.Core.Path.{sym, _∙_, subst}
 use native.Mathlib.Omega.{arith}
 use borrow.Author.Needs.{needs}
 use Rattle.geometry.specs.Drift.{Allowed}
-use Rattle.geometry.specs.Tables.{ProfileTable}
-use Rattle.geometry.specs.declared.Line.{Line}
 use Rattle.filter.proofs.Finishing.{tables-as}
 use Rattle.filter.proofs.page.fill_tables.Statement.{statement}
 use Rattle.filter.proofs.page.fill_tables.Tie as tie

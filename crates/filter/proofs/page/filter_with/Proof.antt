@@ -1,5 +1,4 @@
 -- `filter::page::filter_with` meets its contract: tables, filter, out. Assumes nothing.
-use mathlib.Core.Path.{sym}
 use native.Mathlib.Omega.{arith}
 use borrow.Author.Needs.{needs}
 use Rattle.filter.proofs.Finishing.{boxes-lie, sides-out, given-out, room-one, tables-long, rows-most}

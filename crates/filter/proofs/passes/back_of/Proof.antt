@@ -1,6 +1,5 @@
 -- `filter::passes::back_of` meets its contract. Assumes nothing.
 use mathlib.Core.Path.{refl}
-use native.Mathlib.Omega.{arith}
 use borrow.Author.Needs.{needs}
 use Rattle.filter.specs.Filters.{dilationBack}
 use Rattle.filter.specs.Engine.{backOf}

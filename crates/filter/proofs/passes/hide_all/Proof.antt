@@ -1,5 +1,4 @@
 -- `filter::passes::hide_all` meets its contract: the first boxes of its array are those of the recipe. Assumes nothing.
-use borrow.Author.Needs.{needs}
 use Rattle.filter.specs.Filters.{recipeBoxes}
 use Rattle.filter.proofs.passes.hide_all.Statement.{statement}
 use Rattle.filter.proofs.passes.hide_all.Tie as tie

@@ -1,5 +1,4 @@
 -- `job::job::finish` meets its contract: filtered, then cleared. Assumes nothing.
-use mathlib.Core.Path.{_∙_, ap}
 use native.Mathlib.Omega.{arith}
 use borrow.Author.Needs.{needs}
 use Rattle.job.specs.Laws.{pages-most}

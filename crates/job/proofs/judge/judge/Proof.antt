@@ -1,12 +1,10 @@
 -- `job::judge::judge` meets its contract: sides first, then the rest in order. Assumes nothing.
-use mathlib.Core.Path.{_≡_, sym, ap, ap₂, _∙_}
+use mathlib.Core.Path.{sym, ap, ap₂, _∙_}
 use Prim.Native.Nat.{ℕ}
-use native.Mathlib.Omega.{arith}
 use borrow.Author.Needs.{needs}
 use borrow.Author.Tests.{not-true, not-false}
 use Rattle.refusal.specs.Answer.{isDone}
 use Rattle.refusal.specs.Chain.{_then_, then-on, then-stop}
-use Rattle.refusal.specs.declared.Answer.{Answer}
 use Rattle.job.specs.Judging.{judgePlaces, judgeScratch}
 use Rattle.job.proofs.Running.{scratch-as}
 use Rattle.job.proofs.judge.judge.Statement.{statement}

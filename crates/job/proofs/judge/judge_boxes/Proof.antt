@@ -1,15 +1,14 @@
 -- `job::judge::judge_boxes` meets its contract: 14 at the first box that is not allowed. Assumes nothing.
-use mathlib.Core.Path.{_≡_, sym, ap, _∙_}
-use Prim.Native.Nat.{ℕ, _+_, _≤_, _<_}
+use mathlib.Core.Path.{sym, ap, _∙_}
+use Prim.Native.Nat.{_≤_, _<_}
 use native.Mathlib.Nat.{zero-add}
 use native.Mathlib.Omega.{arith}
-use borrow.Author.Needs.{needs}
 use lib.ListN.{length}
 use Rattle.refusal.specs.declared.Answer.the-variants.{Refused}
 use Rattle.refusal.specs.declared.Refusal.the-variants.{BadBox}
 use Rattle.boxes.specs.Boxes.{boxesOf}
 use Rattle.boxes.specs.First.{firstOf}
-use Rattle.job.specs.Judging.{judgeBoxes}
+use Rattle.job.specs.Judging.{judgePageBoxes}
 use Rattle.job.proofs.Boxes.{refused, first-refused, none-refused, boxes-counted}
 use Rattle.job.proofs.judge.judge_boxes.Statement.{statement}
 use Rattle.job.proofs.judge.judge_boxes.Tie as tie
@@ -18,7 +17,7 @@ first-refused-requires : tie.Need-first-refused-requires
 first-refused-requires c κs = c .pre .0
 
 returns : tie.Need-returns
-unfolding judgeBoxes
+unfolding judgePageBoxes
 returns c =
     let a = c .before .before .before .args in
     let pre = c .before .before .before .pre in
@@ -28,7 +27,7 @@ returns c =
     ap (Refused BadBox) (found ∙ sym (zero-add _)) ∙ sym (first-refused (a .width) (a .height) 0 (boxesOf (a .t)) below)
 
 returns-2 : tie.Need-returns-2
-unfolding judgeBoxes
+unfolding judgePageBoxes
 returns-2 c =
     let a = c .before .before .before .args in
     let pre = c .before .before .before .pre in

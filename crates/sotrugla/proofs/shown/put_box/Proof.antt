@@ -1,6 +1,5 @@
 -- `sotrugla::shown::put_box` meets its contract: four stores in a row. Assumes nothing.
 use native.Mathlib.Omega.{arith}
-use native.Mathlib.Numerals.{add-one}
 use borrow.Author.Needs.{needs}
 use lib.ListN.{length-set}
 use denote.Ref.{now}
