@@ -1,7 +1,20 @@
--- Document 01, 'Refusals and what they return': the column 'No.'. Assumes nothing.
+-- Document 01, 'Refusals and what they return': the column 'No.'; document 02: the refusals that its wishes add.
+-- Assumes nothing.
 use Prim.Native.Nat.{ℕ}
+use Rattle.refusal.specs.declared.Later as later
+use Rattle.refusal.specs.declared.Later.the-variants.{BadHeader, BadMaximum, BadPixel}
 use Rattle.refusal.specs.declared.Refusal.{Refusal}
-use Rattle.refusal.specs.declared.Refusal.the-variants.{TicketEnds, WrongTag, WrongLength, Unknown, TooManyBoxes, BadVector, BadLength, BadOrigin, BadPhase, BadSides, SourceTooShort, OutputTooShort, ScratchTooShort, BadBox}
+use Rattle.refusal.specs.declared.Refusal.the-variants.{TicketEnds, WrongTag, WrongLength, Unknown}
+use Rattle.refusal.specs.declared.Refusal.the-variants.{TooManyBoxes, BadVector, BadLength, BadOrigin, BadPhase}
+use Rattle.refusal.specs.declared.Refusal.the-variants.{BadSides, SourceTooShort, OutputTooShort}
+use Rattle.refusal.specs.declared.Refusal.the-variants.{ScratchTooShort, BadBox, Later}
+
+-- wish 1: "Refusals: 15, bad header or maximum 0 (sides are 10's); 16, maximum above 255; 17, pixel above the maximum
+-- or too few pixels"
+abbrev pub laterNumber : later.Later → ℕ
+laterNumber BadHeader = 15
+laterNumber BadMaximum = 16
+laterNumber BadPixel = 17
 
 abbrev pub refusalNumber : Refusal → ℕ
 refusalNumber TicketEnds = 1
@@ -18,3 +31,4 @@ refusalNumber SourceTooShort = 11
 refusalNumber OutputTooShort = 12
 refusalNumber ScratchTooShort = 13
 refusalNumber BadBox = 14
+refusalNumber (Later one) = laterNumber one

@@ -1,11 +1,23 @@
-// An answer as three numbers: document 01's number of a refusal (0 for what is done), its place, and the work.
+// An answer as three numbers: the documents' number of a refusal (0 for what is done), its place, and the work.
 ghost use mathlib.Core.Path.{_≡_};
-ghost use Rattle.refusal.specs.Refusal.{refusalNumber};
+ghost use Rattle.refusal.specs.Refusal.{laterNumber, refusalNumber};
 ghost use Rattle.refusal.specs.Answer.{numberOf, placeOf, workIn, isDone};
 use super::Answer;
+use super::Later;
 use super::Refusal;
 
-// The number that document 01 gives a refusal.
+// The number that document 02 gives a refusal.
+fn later_number(r: Later) -> usize
+    ensures { λ n. ⌜ n ≡ laterNumber r ⌝ }
+{
+    match r {
+        Later::BadHeader => 15,
+        Later::BadMaximum => 16,
+        Later::BadPixel => 17,
+    }
+}
+
+// The number that the documents give a refusal.
 pub fn refusal_number(r: Refusal) -> usize
     ensures { λ n. ⌜ n ≡ refusalNumber r ⌝ }
 {
@@ -24,6 +36,7 @@ pub fn refusal_number(r: Refusal) -> usize
         Refusal::OutputTooShort => 12,
         Refusal::ScratchTooShort => 13,
         Refusal::BadBox => 14,
+        Refusal::Later(later) => later_number(later),
     }
 }
 

@@ -1,0 +1,11 @@
+pub mod Bytes
+pub mod Header
+pub mod Reading
+pub mod Laws
+pub mod Scanning
+pub mod Fielding
+pub mod Pixels
+pub mod Writing
+pub mod Decimal
+pub mod ReadBack
+pub mod Worked
