@@ -4,3 +4,4 @@ pub mod Work
 pub mod Engine
 pub mod Promises
 pub mod Laws
+pub mod Within

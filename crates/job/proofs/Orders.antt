@@ -1,7 +1,7 @@
 -- What a ticket that was read orders is within the filter's limits. Assumes nothing.
 use mathlib.Core.Path.{_≡_, ap₂}
 use mathlib.Core.Logic.{by-cases}
-use Prim.Native.Nat.{_≤_, _<_}
+use Prim.Native.Nat.{ℕ, _≤_, _<_}
 use native.Mathlib.Decide.{decLe}
 use native.Mathlib.Omega.{arith}
 use mir.Syntax.{w32}
@@ -16,10 +16,11 @@ use Rattle.ticket.specs.Laws.{Allowed}
 use Rattle.ticket.specs.declared.Ticket.{Ticket}
 use Rattle.filter.specs.Engine.{Fair}
 use Rattle.filter.specs.declared.Recipe.{Recipe}
-use Rattle.job.specs.Order.{lineOf, segmentOf, recipeOf, white}
+use Rattle.job.specs.Order.{lineOf, segmentOf, recipeOf}
 
 module _ (t : Ticket) (ok : Allowed t) where
   pub recipe-as :
+      (white : ℕ) →
       _≡_ {A = Recipe}
       (record {
         operation = t .operation;
@@ -35,13 +36,13 @@ module _ (t : Ticket) (ok : Allowed t) where
               length = t .length;
               origin = t .origin;
             };
-        white = 255;
+        white = white;
         count = t .count;
         boxes = t .boxes;
       })
-      (recipeOf t)
+      (recipeOf t white)
   unfolding recipeOf segmentOf lineOf isPeriodic
-  recipe-as =
+  recipe-as white =
       ap₂ {C = Recipe}
       (λ (dx dy : ℤ).
       record {
@@ -52,7 +53,7 @@ module _ (t : Ticket) (ok : Allowed t) where
               length = t .length;
               origin = t .origin;
             };
-        white = 255;
+        white = white;
         count = t .count;
         boxes = t .boxes;
       })

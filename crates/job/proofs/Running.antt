@@ -31,9 +31,9 @@ use Rattle.filter.specs.Engine.{layoutOf}
 use Rattle.filter.specs.Filters.{recipeBoxes}
 use Rattle.filter.specs.Promises.{Fits, Filtered}
 use Rattle.filter.specs.declared.Recipe.{Recipe}
-use Rattle.job.specs.Order.{recipeOf, pagesOf}
+use Rattle.job.specs.Order.{recipeOf, white, pagesOf}
 use Rattle.job.specs.Judging.{judgeSides, judgePlaces}
-use Rattle.job.specs.Job.{finished, jobWork, jobScratch, answer, lengths, outputAfter, scratchAfter}
+use Rattle.job.specs.Job.{finishedIn, finished, jobWork, jobScratch, answer, lengths, outputAfter, scratchAfter}
 use Rattle.job.specs.Finishing.{Unrefused, Finished, RanRead}
 use Rattle.job.specs.Laws.{Stands, stands, pages-least, pages-most}
 use Rattle.job.specs.declared.Lengths.{Lengths}
@@ -78,48 +78,49 @@ module _ (t : Ticket) (p : Placements) (source output scratch : ℕ) (free : Unr
         mul-le-mul-right (p .width * p .height) (pages-least t),
       )
 
-  boxes-lie : BoxesLie (recipeBoxes (recipeOf t)) (layoutOf (recipeOf t) (p .width) (p .height))
-  unfolding sourcePage recipeBoxes recipeOf boxesOf
-  boxes-lie =
-      let from = all-stands .from in
-      record {
-        wide = from .width-least;
-        high = from .height-least;
-        width-most = from .width-most;
-        height-most = from .height-most;
-        each = all-stands .boxes;
-      }
-
-  fits-so : Fits (recipeOf t) (sourcePage p) (outputPage p) source output scratch
-  unfolding sourcePage outputPage recipeOf
-  fits-so =
-      record {
-        enters =
-            record {
-              segment = segment-fair t (free .ticket);
-              operation-from = free .ticket .operation-from;
-              operation-to = free .ticket .operation-to;
-              count-most = free .ticket .count-to;
-              boxes = boxes-lie;
-              from-tray = all-stands .from;
-              room = two-pages;
-            };
-        to-tray = all-stands .to;
-        same-width = refl;
-        same-height = refl;
-      }
-
-  pub fits-all :
-      (how : Recipe) (from to : Placement) → how ≡ recipeOf t → from ≡ sourcePage p → to ≡ outputPage p
-      → Fits how from to source output scratch
-  fits-all how from to eh ef et =
-      subst (λ (h : Recipe). Fits h from to source output scratch) (sym eh)
-      (subst (λ (f : Placement). Fits (recipeOf t) f to source output scratch) (sym ef)
-      (subst (λ (g : Placement). Fits (recipeOf t) (sourcePage p) g source output scratch) (sym et) fits-so))
-
   pub used-room : (n : ℕ) → n ≡ scratchNeeded (pagesOf t) (p .width) (p .height) → n ≤ scratch
   unfolding jobScratch
   used-room n e = omega (arith, all-stands .room)
+
+  module _ (white : ℕ) where
+    boxes-lie : BoxesLie (recipeBoxes (recipeOf t white)) (layoutOf (recipeOf t white) (p .width) (p .height))
+    unfolding sourcePage recipeBoxes recipeOf boxesOf
+    boxes-lie =
+        let from = all-stands .from in
+        record {
+          wide = from .width-least;
+          high = from .height-least;
+          width-most = from .width-most;
+          height-most = from .height-most;
+          each = all-stands .boxes;
+        }
+
+    fits-so : Fits (recipeOf t white) (sourcePage p) (outputPage p) source output scratch
+    unfolding sourcePage outputPage recipeOf
+    fits-so =
+        record {
+          enters =
+              record {
+                segment = segment-fair t (free .ticket);
+                operation-from = free .ticket .operation-from;
+                operation-to = free .ticket .operation-to;
+                count-most = free .ticket .count-to;
+                boxes = boxes-lie;
+                from-tray = all-stands .from;
+                room = two-pages;
+              };
+          to-tray = all-stands .to;
+          same-width = refl;
+          same-height = refl;
+        }
+
+    pub fits-all :
+        (how : Recipe) (from to : Placement) → how ≡ recipeOf t white → from ≡ sourcePage p → to ≡ outputPage p
+        → Fits how from to source output scratch
+    fits-all how from to eh ef et =
+        subst (λ (h : Recipe). Fits h from to source output scratch) (sym eh)
+        (subst (λ (f : Placement). Fits (recipeOf t white) f to source output scratch) (sym ef)
+        (subst (λ (g : Placement). Fits (recipeOf t white) (sourcePage p) g source output scratch) (sym et) fits-so))
 
 -- ---- what it leaves
 
@@ -134,12 +135,12 @@ cleared-same n a b size room rest =
     (λ low. cleared-below n a i low ∙ sym (cleared-below n b i low))
     (λ high. cleared-above n a i (omega arith) ∙ rest i (omega arith) ∙ sym (cleared-above n b i (omega arith))))
 
-module _ (t : Ticket) (p : Placements) (source output scratch after mid used : List ℕ) (work : ℕ) where
+module _ (t : Ticket) (white : ℕ) (p : Placements) (source output scratch after mid used : List ℕ) (work : ℕ) where
   finished-so :
       Unrefused t p (length source) (length output) (length scratch)
-      → Filtered (recipeOf t) (sourcePage p) (outputPage p) source output scratch after mid work → used ≡ cleared (jobScratch t p) mid
-      → Finished t p source output scratch after used work
-  unfolding finished jobWork recipeOf sourcePage jobScratch
+      → Filtered (recipeOf t white) (sourcePage p) (outputPage p) source output scratch after mid work → used ≡ cleared (jobScratch t p) mid
+      → Finished t white p source output scratch after used work
+  unfolding finishedIn jobWork recipeOf sourcePage jobScratch
   finished-so free done clear =
       record {
         written-is = done .written-is;
@@ -159,10 +160,10 @@ module _ (t : Ticket) (p : Placements) (source output scratch after mid used : L
           )
 
   pub finished-all :
-      Unrefused t p (length source) (length output) (length scratch) → (how : Recipe) (from to : Placement) (n : ℕ) → how ≡ recipeOf t
+      Unrefused t p (length source) (length output) (length scratch) → (how : Recipe) (from to : Placement) (n : ℕ) → how ≡ recipeOf t white
       → from ≡ sourcePage p → to ≡ outputPage p → n ≡ scratchNeeded (pagesOf t) (p .width) (p .height)
       → Filtered how from to source output scratch after mid work → used ≡ cleared n mid
-      → Finished t p source output scratch after used work
+      → Finished t white p source output scratch after used work
   unfolding jobScratch
   finished-all free how from to n eh ef et en done clear =
       finished-so free
@@ -173,10 +174,10 @@ module _ (t : Ticket) (p : Placements) (source output scratch after mid used : L
 
 -- ---- the job of a ticket that was read
 
-module _ (t : Ticket) (p : Placements) (source output scratch : List ℕ) where
+module _ (t : Ticket) (white : ℕ) (p : Placements) (source output scratch : List ℕ) where
   pub ran-refused :
       (given : Answer) → given ≡ judgePlaces t p (lengths source output scratch) → isDone given ≡ false
-      → RanRead t p source output scratch output scratch given
+      → RanRead t white p source output scratch output scratch given
   ran-refused given is e =
       record {
         answered = is ∙ sym (then-stop _ _ (ap isDone (sym is) ∙ e));
@@ -186,7 +187,7 @@ module _ (t : Ticket) (p : Placements) (source output scratch : List ℕ) where
 
   pub ran-done :
       (given : Answer) → given ≡ judgePlaces t p (lengths source output scratch) → isDone given ≡ true → (after used : List ℕ) (work : ℕ)
-      → Finished t p source output scratch after used work → RanRead t p source output scratch after used (Done work)
+      → Finished t white p source output scratch after used work → RanRead t white p source output scratch after used (Done work)
   unfolding whenDone
   ran-done given is e after used work done =
       record {
@@ -223,12 +224,12 @@ module _ (ticket : List ℕ) (p : Placements) (source output scratch : List ℕ)
     read-ticket = ap (λ (q : Reading). q .ticket) is ∙ reading-good ticket good
 
     pub job-read :
-        (after used : List ℕ) (given : Answer) → RanRead (r .ticket) p source output scratch after used given
+        (after used : List ℕ) (given : Answer) → RanRead (r .ticket) white p source output scratch after used given
         → (given ≡ answer ticket p (lengths source output scratch))
         × ((after ≡ outputAfter ticket p source output scratch) × (used ≡ scratchAfter ticket p source output scratch))
     unfolding outputAfter scratchAfter answer
     job-read after used given ran =
-        let mine = subst (λ (q : Ticket). RanRead q p source output scratch after used given) read-ticket ran in
+        let mine = subst (λ (q : Ticket). RanRead q white p source output scratch after used given) read-ticket ran in
         let same = answered after used given mine in (
           same,
           (
@@ -241,6 +242,6 @@ module _ (ticket : List ℕ) (p : Placements) (source output scratch : List ℕ)
         )
       where
         answered :
-            (after used : List ℕ) (given : Answer) → RanRead (shown ticket) p source output scratch after used given
+            (after used : List ℕ) (given : Answer) → RanRead (shown ticket) white p source output scratch after used given
             → given ≡ answer ticket p (lengths source output scratch)
         answered after used given mine = mine .answered ∙ sym (then-on (judged ticket) _ good)

@@ -17,13 +17,17 @@ use Rattle.tray.specs.declared.Placement.{Placement}
 use Rattle.tray.specs.declared.Placements.{Placements}
 use Rattle.filter.specs.Filters.{filteredPage}
 use Rattle.filter.specs.Work.{workOf}
-use Rattle.job.specs.Order.{segmentOf, recipeOf, pagesOf}
+use Rattle.job.specs.Order.{segmentOf, recipeOf, white, pagesOf}
 use Rattle.job.specs.Judging.{judgePlaces}
 use Rattle.job.specs.declared.Lengths.{Lengths}
 
--- the finished page, by column and row: what the filter makes of the page that stands in a tray
-unfoldable pub finished : Ticket → Placement → List ℕ → ℕ → ℕ → ℕ
-finished t p tray c r = filteredPage (recipeOf t) (p .width) (p .height) (pixelIn tray p) c r
+-- the finished page, by column and row: what the filter makes of the page that stands in a tray, with this white
+unfoldable pub finishedIn : ℕ → Ticket → Placement → List ℕ → ℕ → ℕ → ℕ
+finishedIn white t p tray c r = filteredPage (recipeOf t white) (p .width) (p .height) (pixelIn tray p) c r
+
+-- a tray's own pages have 255
+abbrev pub finished : Ticket → Placement → List ℕ → ℕ → ℕ → ℕ
+finished t p tray c r = finishedIn white t p tray c r
 
 -- the comparisons on a page w by h
 unfoldable pub jobWork : Ticket → ℕ → ℕ → ℕ

@@ -29,9 +29,9 @@ use Rattle.tray.specs.declared.Placement.{Placement}
 use Rattle.tray.specs.declared.Placements.{Placements}
 use Rattle.filter.specs.Seen.{seen}
 use Rattle.filter.specs.Filters.{filtered, orWhite, recipeBoxes, filteredPage}
-use Rattle.job.specs.Order.{lineOf, segmentOf, white, recipeOf, pagesOf}
+use Rattle.job.specs.Order.{lineOf, segmentOf, recipeOf, pagesOf}
 use Rattle.job.specs.Judging.{judgeSides, judgeSource, judgeOutput, judgeScratch, judgePageBoxesFrom, judgePageBoxes, judgePlaces}
-use Rattle.job.specs.Job.{finished, jobWork, jobScratch, answer, lengths, outputAfter}
+use Rattle.job.specs.Job.{finishedIn, finished, jobWork, jobScratch, answer, lengths, outputAfter}
 use Rattle.job.specs.declared.Lengths.{Lengths}
 
 -- ---- the pages in the scratch
@@ -126,12 +126,12 @@ line-sound t ok = sound (lineOf t) (ok .runs)
 
 -- the finished page is the filter of the ticket's segment, with white where a pixel is absent
 pub finished-is :
-    (t : Ticket) (p : Placement) (tray : List ℕ) (c r : ℕ)
-    → finished t p tray c r
+    (white : ℕ) (t : Ticket) (p : Placement) (tray : List ℕ) (c r : ℕ)
+    → finishedIn white t p tray c r
     ≡ orWhite white
     (filtered (t .operation) (segmentOf t) (seen (boxesOf t) (p .width) (p .height) (pixelIn tray p)) c r)
-unfolding finished filteredPage recipeBoxes recipeOf boxesOf
-finished-is t p tray c r = refl
+unfolding finishedIn filteredPage recipeBoxes recipeOf boxesOf
+finished-is white t p tray c r = refl
 
 -- a finished job's output tray has the finished page's pixels
 pub output-pixel :

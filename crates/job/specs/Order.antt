@@ -15,13 +15,14 @@ lineOf t = record { periodic = isPeriodic (t .line); dx = t .dx; dy = t .dy; pha
 unfoldable pub segmentOf : Ticket → Segment
 segmentOf t = record { line = lineOf t; length = t .length; origin = t .origin }
 
+-- the operation, the boxes, and how a hidden pixel comes out
+unfoldable pub recipeOf : Ticket → ℕ → Recipe
+recipeOf t white =
+    record { operation = t .operation; segment = segmentOf t; white = white; count = t .count; boxes = t .boxes }
+
 -- "A hidden pixel comes out as 255 in every finished page."
 abbrev pub white : ℕ
 white = 255
-
-unfoldable pub recipeOf : Ticket → Recipe
-recipeOf t =
-    record { operation = t .operation; segment = segmentOf t; white = white; count = t .count; boxes = t .boxes }
 
 -- how many pages a job keeps in the scratch: "2·w·h + 3·max(w, h) bytes"
 unfoldable pub pagesOf : Ticket → ℕ

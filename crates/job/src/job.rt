@@ -16,13 +16,23 @@ use ticket::Ticket;
 use tray::Placements;
 use tray::place;
 
+// "A hidden pixel comes out as 255 in every finished page."
+const WHITE: u8 = 255;
+
 // A job that nothing refuses: the page filtered into the output tray, and the scratch it used zero again.
-fn finish(t: Ticket, p: Placements, source: &[u8], output: &mut [u8], scratch: &mut [u8]) -> usize
+fn finish(
+    t: Ticket,
+    white: u8,
+    p: Placements,
+    source: &[u8],
+    output: &mut [u8],
+    scratch: &mut [u8],
+) -> usize
     requires { ⌜ Unrefused t p (length (now source)) (length (now output)) (length (now scratch)) ⌝ }
-    ensures { λ r. ⌜ Finished t p (now (source .entry)) (now (output .entry)) (now (scratch .entry))
+    ensures { λ r. ⌜ Finished t white p (now (source .entry)) (now (output .entry)) (now (scratch .entry))
         (now (output .exit)) (now (scratch .exit)) r ⌝ }
 {
-    let how = recipe_of(t);
+    let how = recipe_of(t, white);
     let from = place::source_page(p);
     let to = place::output_page(p);
     let work = filter(how, source, from, output, to, scratch);
@@ -31,16 +41,17 @@ fn finish(t: Ticket, p: Placements, source: &[u8], output: &mut [u8], scratch: &
     work
 }
 
-// The job of a ticket that was read.
-fn run_read(
+// The job of a ticket that was read, with this white under its boxes: a file's page has a white of its own.
+pub fn run_read(
     t: Ticket,
+    white: u8,
     p: Placements,
     source: &[u8],
     output: &mut [u8],
     scratch: &mut [u8],
 ) -> Answer
     requires { ⌜ Allowed t ⌝ }
-    ensures { λ r. ⌜ RanRead t p (now (source .entry)) (now (output .entry)) (now (scratch .entry))
+    ensures { λ r. ⌜ RanRead t white p (now (source .entry)) (now (output .entry)) (now (scratch .entry))
         (now (output .exit)) (now (scratch .exit)) r ⌝ }
 {
     let n = Lengths {
@@ -52,7 +63,7 @@ fn run_read(
     if !is_done(judged) {
         return judged;
     }
-    let work = finish(t, p, source, output, scratch);
+    let work = finish(t, white, p, source, output, scratch);
     Answer::Done(work as u64)
 }
 
@@ -78,5 +89,5 @@ pub fn run(
     if !is_done(read) {
         return read;
     }
-    run_read(reading.ticket, p, source, output, scratch)
+    run_read(reading.ticket, WHITE, p, source, output, scratch)
 }

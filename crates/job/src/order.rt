@@ -7,16 +7,13 @@ use filter::Segment;
 use geometry::Line;
 use ticket::Ticket;
 
-// "A hidden pixel comes out as 255 in every finished page."
-const WHITE: u8 = 255;
-
 // "line: 1 connected (Bresenham), 2 periodic"
 const PERIODIC: usize = 2;
 
-// The operation along the segment, and the boxes.
-pub fn recipe_of(t: Ticket) -> Recipe
+// The operation along the segment, the boxes, and how a hidden pixel comes out.
+pub fn recipe_of(t: Ticket, white: u8) -> Recipe
     requires { ⌜ Allowed t ⌝ }
-    ensures { λ r. ⌜ r ≡ recipeOf t ⌝ }
+    ensures { λ r. ⌜ r ≡ recipeOf t white ⌝ }
 {
     let line = Line {
         periodic: t.line == PERIODIC,
@@ -33,7 +30,7 @@ pub fn recipe_of(t: Ticket) -> Recipe
     Recipe {
         operation: t.operation,
         segment: segment,
-        white: WHITE,
+        white: white,
         count: t.count,
         boxes: boxes,
     }

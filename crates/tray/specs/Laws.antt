@@ -99,7 +99,7 @@ byte-is p c r = refl
 pub byte-below : (p : Placement) (n c r : ℕ) → Placed p n → c < p .width → r < p .height → byteOf p c r < n
 byte-below p n c r h c-in r-in = omega (arith, byte-is p c r, row-room p n r h r-in)
 
-byte-from : (p : Placement) (c r : ℕ) → p .offset ≤ byteOf p c r
+pub byte-from : (p : Placement) (c r : ℕ) → p .offset ≤ byteOf p c r
 unfolding byteOf rowStart
 byte-from p c r = omega arith
 
@@ -156,6 +156,19 @@ inside-pixel p i h =
       row = ltb-true _ _ (sides .1);
       byte = omega (arith, away, div-add-mod' (i - p .offset) (p .stride));
     }
+
+-- rows that follow one another leave no byte between them
+pub inside-rows :
+    (p : Placement) (i : ℕ) → p .stride ≡ p .width → 0 < p .width → i < p .width * p .height
+    → inside p (p .offset + i) ≡ true
+unfolding inside columnOf rowOf
+inside-rows p i close wide i-in =
+    let gone : p .offset + i - p .offset ≡ i = omega arith in
+    let some : 0 < p .stride = omega arith in
+    let down : i < p .height * p .stride = rw (close, mul-comm (p .height) (p .width)) i-in in
+    let column : i % p .stride < p .width = omega (arith, mod-lt i some) in
+    let row : i / p .stride < p .height = div-lt-iff-lt-mul some .1 down in
+    rw (gone, le-leb (p .offset) (p .offset + i) (omega arith), lt-ltb _ _ column, lt-ltb _ _ row)
 
 -- past the bytes that a page needs there is nothing of it
 pub outside-past : (p : Placement) (n i : ℕ) → Placed p n → n ≤ i → inside p i ≡ false

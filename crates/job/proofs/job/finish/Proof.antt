@@ -11,7 +11,7 @@ recipe-of-requires c κs = c .before .before .before .pre .ticket
 
 filter-requires : tie.Need-filter-requires
 filter-requires c κs =
-    fits-all _ _ _ _ _ (c .before .before .before .before .before .before .before .before .pre) _ _ _ (c .before .before .before .before .recipe-of .ensures) (c .before .before .before .source-page .ensures) (c .before .before .output-page .ensures)
+    fits-all _ _ _ _ _ (c .before .before .before .before .before .before .before .before .pre) _ _ _ _ (c .before .before .before .before .recipe-of .ensures) (c .before .before .before .source-page .ensures) (c .before .before .output-page .ensures)
 
 scratch-needed-requires : tie.Need-scratch-needed-requires
 scratch-needed-requires c κs =
@@ -31,7 +31,7 @@ clear-requires c κs =
 returns : tie.Need-returns
 returns c =
     let start = c .before .before .before .before .before .before .before .before .before .before .before .before .before .before .before .before .before .before .before in
-    finished-all _ _ _ _ _ _ _ _ _ (start .pre) _ _ _ _ (c .before .before .before .before .before .before .before .before .before .before .before .before .before .before .before .recipe-of .ensures) (c .before .before .before .before .before .before .before .before .before .before .before .before .before .before .source-page .ensures) (c .before .before .before .before .before .before .before .before .before .before .before .before .before .output-page .ensures)
+    finished-all _ _ _ _ _ _ _ _ _ _ (start .pre) _ _ _ _ (c .before .before .before .before .before .before .before .before .before .before .before .before .before .before .before .recipe-of .ensures) (c .before .before .before .before .before .before .before .before .before .before .before .before .before .before .source-page .ensures) (c .before .before .before .before .before .before .before .before .before .before .before .before .before .output-page .ensures)
     (needed-as (start .args .t) (start .args .p) _ _ (c .before .before .before .before .before .pages-of .ensures) (c .before .before .before .before .scratch-needed .ensures))
     (c .before .before .before .before .before .before .before .before .before .before .filter .ensures)
     (c .before .before .clear .ensures)

@@ -11,7 +11,7 @@ judge-requires : tie.Need-judge-requires
 judge-requires c κs = (c .before .before .before .pre .count-to, c .before .before .before .pre .places)
 
 returns : tie.Need-returns
-returns c = ran-refused _ _ _ _ _ _ (c .before .before .judge .ensures) (sym (c .before .is-done .ensures) ∙ not-true _ (c .if1 .taken))
+returns c = ran-refused _ _ _ _ _ _ _ (c .before .before .judge .ensures) (sym (c .before .is-done .ensures) ∙ not-true _ (c .if1 .taken))
 
 finish-requires : tie.Need-finish-requires
 finish-requires c κs =
@@ -22,7 +22,7 @@ finish-requires c κs =
 
 returns-2 : tie.Need-returns-2
 returns-2 c =
-    ran-done _ _ _ _ _ _ (c .before .before .before .before .before .before .before .before .before .judge .ensures) (sym (c .before .before .before .before .before .before .before .before .is-done .ensures) ∙ not-false _ (c .before .before .before .before .before .before .before .if1 .left)) _ _ _ (c .before .before .before .before .finish .ensures)
+    ran-done _ _ _ _ _ _ _ (c .before .before .before .before .before .before .before .before .before .judge .ensures) (sym (c .before .before .before .before .before .before .before .before .is-done .ensures) ∙ not-false _ (c .before .before .before .before .before .before .before .if1 .left)) _ _ _ (c .before .before .before .before .finish .ensures)
 
 pub run-read-spec : {M : Type 1} → statement M
 run-read-spec =

@@ -6,7 +6,7 @@ use Rattle.job.proofs.order.recipe_of.Tie as tie
 returns : tie.Need-returns
 returns c =
     let start = c .before .before .before in
-    recipe-as (start .args .t) (start .pre)
+    recipe-as (start .args .t) (start .pre) (start .args .white)
 
 pub recipe-of-spec : {M : Type 1} → statement M
 recipe-of-spec = tie.close (tie.spec returns)
