@@ -9,6 +9,8 @@ use Rattle.demands.proofs.Reach as reaching
 use Rattle.demands.proofs.ExactTrays as trays
 use Rattle.demands.proofs.Exact as exact
 use Rattle.demands.proofs.ExactJob as job
+use Rattle.demands.proofs.Files as files
+use Rattle.demands.proofs.ExactFiles as exactly
 
 pub demands : Demands
 demands =
@@ -41,4 +43,21 @@ demands =
       clear-steps = trays.clear-steps;
       exact-reach = exact.exact-reach;
       exact-job-reach = job.exact-job-reach;
+      file-output-kept = files.file-output-kept;
+      file-output-length = files.file-output-length;
+      file-scratch-kept = files.file-scratch-kept;
+      file-scratch-length = files.file-scratch-length;
+      file-scratch-zero = files.file-scratch-zero;
+      file-refused-output = files.file-refused-output;
+      file-refused-scratch = files.file-refused-scratch;
+      file-refused-work = files.file-refused-work;
+      file-reads-back = files.file-reads-back;
+      file-page-back = files.file-page-back;
+      file-hidden = files.file-hidden;
+      file-work = files.file-work;
+      file-one-pass = files.file-one-pass;
+      file-same = files.file-same;
+      file-reach = files.file-reach;
+      file-page-alone = files.file-page-alone;
+      file-exact = exactly.file-exact;
     }

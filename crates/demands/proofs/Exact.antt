@@ -12,7 +12,7 @@ use Rattle.ticket.specs.declared.Ticket.{Ticket}
 use Rattle.tray.specs.Promises.{Placed}
 use Rattle.tray.specs.declared.Placement.{Placement}
 use Rattle.job.specs.Order.{lineOf}
-use Rattle.job.specs.Job.{finished}
+use Rattle.job.specs.Job.{finishedIn}
 use Rattle.demands.specs.Near.{stepAt, Near}
 use Rattle.demands.specs.Exact.{Clear, Matters, ExactReach}
 use Rattle.demands.proofs.Near.{near-in}
@@ -50,14 +50,14 @@ module _ (t : Ticket) (p : Placement) (n c r : ℕ) (ok : Allowed t) (placed : P
   near-to : near .step ≤ from + reach
   near-to = omega (arith, near .fewer .back, near .fewer .on, w .sizes)
 
-  first : finished t p one c r ≡ winner (not (w .low))
-  first =
-      result t p c r ok clear one w _ (run-on t p c r ok clear n placed (w .low) from reach)
+  first : (white : ℕ) → finishedIn white t p one c r ≡ winner (not (w .low))
+  first white =
+      result t p c r ok clear white one w _ (run-on t p c r ok clear n placed (w .low) from reach)
       ∙ twice-run (w .low) (w .a) (w .b) here from room (omega arith) here-in
 
-  second : finished t p two c r ≡ winner (w .low)
-  second =
-      result t p c r ok clear two w _ (changed-on t p c r ok clear n placed (w .low) from reach c′ r′ near)
+  second : (white : ℕ) → finishedIn white t p two c r ≡ winner (w .low)
+  second white =
+      result t p c r ok clear white two w _ (changed-on t p c r ok clear n placed (w .low) from reach c′ r′ near)
       ∙ twice-changed (w .low) (w .a) (w .b) here from (near .step) room (omega arith) here-in (omega arith) near-to
 
   matters : Matters t p n c r c′ r′
@@ -68,11 +68,11 @@ module _ (t : Ticket) (p : Placement) (n c r : ℕ) (ok : Allowed t) (placed : P
         two = two;
         one-length = run-length l p n placed (w .low) from reach;
         two-length = changed-length l p n placed (w .low) from reach c′ r′ (there .0) (there .1);
-        one-bytes = λ i. omega (arith, run-bytes l p n placed (w .low) from reach i);
-        two-bytes = λ i. omega (arith, changed-bytes l p n placed (w .low) from reach c′ r′ (there .0) (there .1) i);
+        one-small = run-bytes l p n placed (w .low) from reach;
+        two-small = changed-bytes l p n placed (w .low) from reach c′ r′ (there .0) (there .1);
         same-elsewhere =
             λ i h. sym (changed-elsewhere l p n placed (w .low) from reach c′ r′ (there .0) (there .1) i h);
-        results-differ = λ e. winners-differ (w .low) (sym second ∙ sym e ∙ first);
+        results-differ = λ white e. winners-differ (w .low) (sym (second white) ∙ sym e ∙ first white);
       }
 
 pub exact-reach : ExactReach

@@ -9,6 +9,7 @@ use Rattle.refusal.specs.declared.Answer.the-variants.{Done}
 use Rattle.ticket.specs.Reading.{shown}
 use Rattle.tray.specs.Placement.{pixelIn, sourcePage, outputPage}
 use Rattle.tray.specs.declared.Placements.{Placements}
+use Rattle.job.specs.Order.{white}
 use Rattle.job.specs.Job.{finished, answer, lengths, outputAfter}
 use Rattle.job.specs.Laws.{finished-stands, finished-allowed, output-pixel}
 use Rattle.job.specs.declared.Lengths.{Lengths}
@@ -43,6 +44,6 @@ exact-job-reach ticket p n work c r bytes done operation clear c′ r′ near =
       pages = x;
       outputs-differ =
           λ out out′ scratch scratch′ o o′ k k′ e.
-          x .results-differ
+          x .results-differ white
           (sym (at (x .one) out scratch (x .one-length) o k) ∙ e ∙ at (x .two) out′ scratch′ (x .two-length) o′ k′);
     }

@@ -26,8 +26,8 @@ use Rattle.tray.specs.declared.Placement.{Placement}
 use Rattle.filter.specs.Seen.{View, runsSteep}
 use Rattle.filter.specs.Filters.{valueAt, onLine, pass, eroded, dilationBack, dilated, opened, closed, operated}
 use Rattle.filter.specs.Filters.{orWhite}
-use Rattle.job.specs.Order.{lineOf, segmentOf, white}
-use Rattle.job.specs.Job.{finished}
+use Rattle.job.specs.Order.{lineOf, segmentOf}
+use Rattle.job.specs.Job.{finishedIn}
 use Rattle.job.specs.Laws.{line-sound}
 use Rattle.demands.specs.Near.{majorPlace, minorPlace, stepAt, FewerSteps, Near}
 use Rattle.demands.specs.Exact.{OpensOrCloses, Clear, ClearSteps}
@@ -114,16 +114,16 @@ module _ (t : Ticket) (p : Placement) (c r : ℕ) (ok : Allowed t) (clear : Clea
 
   -- the result, by the numbers of the line
   pub result :
-      (tray : List ℕ) (w : Passes t) (f : ℕ → ℕ)
+      (white : ℕ) (tray : List ℕ) (w : Passes t) (f : ℕ → ℕ)
       → ((s : ℕ) → FewerSteps (t .length) (stepAt (lineOf t) c r) s → valueOn t p tray c r s ≡ some (f s))
-      → finished t p tray c r ≡ twice (w .low) (w .a) (w .b) f (stepAt (lineOf t) c r)
+      → finishedIn white t p tray c r ≡ twice (w .low) (w .a) (w .b) f (stepAt (lineOf t) c r)
   unfolding orWhite valueOn
-  result tray w f on =
+  result white tray w f on =
       let l : Line = lineOf t in
       let M : ℕ = majorPlace l c r in
       let m : ℕ = minorPlace l c r in
       let page : View = alongIn t p tray in
-      finished-at t p tray c r
+      finished-at t p tray c r white
       ∙ ap (orWhite white)
       (ap (λ (view : View). view M m) (w .made page)
       ∙ ap (λ (n : ℕ). pass (not (w .low)) l (w .b) n (pass (w .low) l (w .a) n page) M m) (w .sizes)

@@ -12,10 +12,13 @@ mod Work
 -- the reach
 mod Windows
 mod Reach
+-- jobs that take a file
+mod Files
 -- the exact reach
 mod ExactNumbers
 mod ExactLines
 mod ExactTrays
 mod Exact
 mod ExactJob
+mod ExactFiles
 mod ExactWorked

@@ -22,7 +22,7 @@ use Rattle.tray.specs.declared.Placement.{Placement}
 use Rattle.filter.specs.Seen.{seen, runsSteep}
 use Rattle.filter.specs.Filters.{valueAt, onLine, orWhite}
 use Rattle.job.specs.Order.{lineOf, segmentOf, white}
-use Rattle.job.specs.Job.{finished, lengths}
+use Rattle.job.specs.Job.{finishedIn, lengths}
 use Rattle.job.specs.Laws.{finished-allowed, line-sound, output-pixel}
 use Rattle.demands.specs.Near.{majorPlace, minorPlace, Near}
 use Rattle.demands.specs.Reach.{AgreeNear, AgreeOnPage, Reach, PageAlone, HiddenWhite}
@@ -106,24 +106,24 @@ module _ (t : Ticket) (p : Placement) (source source′ : List ℕ) (c r : ℕ)
   steps-same s h k = by-place s (landing l m (stepOf l M) s) refl h k
 
   -- the finished page has the same pixel
-  finished-same : Allowed t → finished t p source c r ≡ finished t p source′ c r
+  pub finished-same : (white : ℕ) → Allowed t → finishedIn white t p source c r ≡ finishedIn white t p source′ c r
   unfolding segmentOf
-  finished-same ok =
-      finished-at t p source c r
+  finished-same white ok =
+      finished-at t p source c r white
       ∙ ap (orWhite white)
       (operated-same (segmentOf t) (line-sound t ok) (ok .origin-below) M m (alongIn t p source) (alongIn t p source′)
       steps-same
       (t .operation))
-      ∙ sym (finished-at t p source′ c r)
+      ∙ sym (finished-at t p source′ c r white)
 
 -- a hidden pixel
-finished-hidden :
-    (t : Ticket) (p : Placement) (source : List ℕ) (c r : ℕ) → hidden (boxesOf t) c r ≡ true
-    → finished t p source c r ≡ 255
+pub finished-hidden :
+    (white : ℕ) (t : Ticket) (p : Placement) (source : List ℕ) (c r : ℕ) → hidden (boxesOf t) c r ≡ true
+    → finishedIn white t p source c r ≡ white
 unfolding orWhite
-finished-hidden t p source c r e =
+finished-hidden white t p source c r e =
     let l : Line = lineOf t in
-    finished-at t p source c r
+    finished-at t p source c r white
     ∙ ap (orWhite white)
     (operated-none (t .operation) (segmentOf t) (alongIn t p source) (majorPlace l c r) (minorPlace l c r)
     (turned-back (runsSteep l) (seenIn t p source) c r ∙ seen-none t p source c r e))
@@ -135,7 +135,7 @@ reach ticket p source source′ out out′ scratch scratch′ work bytes same do
     let second = sym (same-answer ticket p source source′ out out′ scratch scratch′ same) ∙ done in
     let ok = finished-allowed ticket p (lengths source out scratch) work bytes done in
     output-pixel ticket p source out scratch work done c r c-in r-in
-    ∙ finished-same (shown ticket) (sourcePage p) source source′ c r agree ok
+    ∙ finished-same (shown ticket) (sourcePage p) source source′ c r agree white ok
     ∙ sym (output-pixel ticket p source′ out′ scratch′ work second c r c-in r-in)
 
 pub page-alone : PageAlone
@@ -149,4 +149,4 @@ page-alone ticket p source source′ out out′ scratch scratch′ work bytes sa
 pub hidden-white : HiddenWhite
 hidden-white ticket p source out scratch work done c r c-in r-in hid =
     output-pixel ticket p source out scratch work done c r c-in r-in
-    ∙ finished-hidden (shown ticket) (sourcePage p) source c r hid
+    ∙ finished-hidden white (shown ticket) (sourcePage p) source c r hid

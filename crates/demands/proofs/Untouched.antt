@@ -23,7 +23,7 @@ use Rattle.demands.specs.Untouched.{RefusedOutput, RefusedScratch, Refus
 -- ---- what each answer makes of a tray
 
 -- what holds of a finished tray and of a kept one holds whatever the answer is
-when-either {ℓ} :
+pub when-either {ℓ} :
     {X : Type ℓ} (P : X → Type 0) (a : Answer) (done kept : X) → P kept → ((work : ℕ) → a ≡ Done work → P done)
     → P (whenDone a done kept)
 unfolding whenDone
@@ -31,12 +31,12 @@ when-either P (Done work) done kept k d = d work refl
 when-either P (Refused refusal at) done kept k d = k
 
 -- an answer with a refusal's number is not done, and has no work
-not-done : (a : Answer) → (numberOf a ≡ 0 → ⊥) → isDone a ≡ false
+pub not-done : (a : Answer) → (numberOf a ≡ 0 → ⊥) → isDone a ≡ false
 unfolding numberOf isDone
 not-done (Done work) refused = absurd (refused refl)
 not-done (Refused refusal at) refused = refl
 
-no-work : (a : Answer) → (numberOf a ≡ 0 → ⊥) → workIn a ≡ 0
+pub no-work : (a : Answer) → (numberOf a ≡ 0 → ⊥) → workIn a ≡ 0
 unfolding numberOf workIn
 no-work (Done work) refused = absurd (refused refl)
 no-work (Refused refusal at) refused = refl

@@ -1,4 +1,5 @@
--- The demands that are theorems over the job's definitions: every statement of this crate, in one record.
+-- The demands that are theorems over the definitions of a job and of a job on a file: every statement of this crate, in
+-- one record.
 -- proofs/Demands.antt has its proof.
 -- Assumes nothing.
 use Rattle.demands.specs.Same.{SameAnswer, SameNumber, SamePlace, SameWork}
@@ -9,6 +10,10 @@ use Rattle.demands.specs.Work.{FinishedTwoPasses}
 use Rattle.demands.specs.Near.{NearIn, NearSelf, NearStep, NearBack}
 use Rattle.demands.specs.Reach.{Reach, PageAlone, HiddenWhite}
 use Rattle.demands.specs.Exact.{ClearSteps, ExactReach, ExactJobReach}
+use Rattle.demands.specs.Files.{FileOutputKept, FileOutputLength, FileScratchKept, FileScratchLength}
+use Rattle.demands.specs.Files.{FileScratchZero, FileRefusedOutput, FileRefusedScratch, FileRefusedWork}
+use Rattle.demands.specs.Files.{FileReadsBack, FilePageBack, FileHidden, FileWork, FileOnePass}
+use Rattle.demands.specs.Files.{FileSame, FileReach, FilePageAlone, FileExact}
 
 pub record Demands : Type 0 where
   -- 1. a refused job writes nothing; a finished one writes only its page and leaves the scratch it used at zero
@@ -44,3 +49,23 @@ pub record Demands : Type 0 where
   pub clear-steps : ClearSteps
   pub exact-reach : ExactReach
   pub exact-job-reach : ExactJobReach
+  -- the same of a job on a file. 1. it writes the file and nothing else, and what it wrote reads back
+  pub file-output-kept : FileOutputKept
+  pub file-output-length : FileOutputLength
+  pub file-scratch-kept : FileScratchKept
+  pub file-scratch-length : FileScratchLength
+  pub file-scratch-zero : FileScratchZero
+  pub file-refused-output : FileRefusedOutput
+  pub file-refused-scratch : FileRefusedScratch
+  pub file-refused-work : FileRefusedWork
+  pub file-reads-back : FileReadsBack
+  pub file-page-back : FilePageBack
+  -- 2. hidden pixels come out as the maximum, and the work is bounded
+  pub file-hidden : FileHidden
+  pub file-work : FileWork
+  pub file-one-pass : FileOnePass
+  -- 3. for files that are read with the same sides, start and maximum: same answer, reach, exact reach
+  pub file-same : FileSame
+  pub file-reach : FileReach
+  pub file-page-alone : FilePageAlone
+  pub file-exact : FileExact

@@ -19,7 +19,7 @@ use Rattle.tray.specs.Promises.{Placed}
 use Rattle.tray.specs.declared.Placement.{Placement}
 use Rattle.tray.specs.declared.Placements.{Placements}
 use Rattle.job.specs.Order.{lineOf}
-use Rattle.job.specs.Job.{finished, answer, outputAfter}
+use Rattle.job.specs.Job.{finishedIn, answer, outputAfter}
 use Rattle.job.specs.declared.Lengths.{Lengths}
 use Rattle.demands.specs.Near.{stepAt, onPage, FewerSteps, Near}
 
@@ -51,16 +51,17 @@ ClearSteps =
     → (s : ℕ) → FewerSteps (t .length) (stepAt (lineOf t) c r) s → NearAt t p c r s
 
 -- "two pages exist that differ only there and give that pixel different results": two trays of n bytes that differ at
--- one byte at most, that of column c′, row r′, and the results at column c, row r
+-- one byte at most, that of column c′, row r′, and the results at column c, row r, whatever white is; greys 0 and 1
+-- will do
 pub record Matters (t : Ticket) (p : Placement) (n c r c′ r′ : ℕ) : Type 0 where
   pub one : List ℕ
   pub two : List ℕ
   pub one-length : length one ≡ n
   pub two-length : length two ≡ n
-  pub one-bytes : (i : ℕ) → getD one i 0 < 256
-  pub two-bytes : (i : ℕ) → getD two i 0 < 256
+  pub one-small : (i : ℕ) → getD one i 0 ≤ 1
+  pub two-small : (i : ℕ) → getD two i 0 ≤ 1
   pub same-elsewhere : (i : ℕ) → i ≢ byteOf p c′ r′ → getD one i 0 ≡ getD two i 0
-  pub results-differ : finished t p one c r ≢ finished t p two c r
+  pub results-differ : (white : ℕ) → finishedIn white t p one c r ≢ finishedIn white t p two c r
 
 -- THE REACH IS EXACT: for a ticket that was read and a page that fits its tray, each near pixel matters to a clear one.
 abbrev pub ExactReach : Type 0

@@ -5,4 +5,5 @@ pub mod Near
 pub mod Reach
 pub mod Exact
 pub mod Work
+pub mod Files
 pub mod Demands

@@ -1,3 +1,4 @@
+pub mod Files
 pub mod Hiding
 pub mod Outcome
 pub mod Shown

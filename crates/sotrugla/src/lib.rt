@@ -1,6 +1,7 @@
 // The library as C, Rust and Python link it: the proved job on plain numbers and slices. A slice is a pointer and
 // then a length; sizes are 64-bit numbers. No function here has a condition on its callers but that of every slice:
 // its bytes are there, and no two of the buffers overlap.
+pub mod files; // files.rt: pages that arrive as P5 files
 mod shown; // shown.rt: a ticket alone, as a row of numbers
 
 ghost use mathlib.Core.Path.{_≡_};
@@ -15,7 +16,7 @@ use tray::Placements;
 use tray::Spot;
 
 // An answer: refusal is 0 for a finished page or a ticket that was read, else the number of the refusal. 1 to 25
-// are the documents' (1 to 14 so far); 100 is ours and means a buffer of numbers that is too short.
+// are the documents' (1 to 17 so far); 100 is ours and means a buffer of numbers that is too short.
 #[repr(C)]
 pub struct Outcome {
     pub refusal: u64,
