@@ -3,16 +3,16 @@
 
 use std::io;
 
-use crate::generate::{self, TicketList};
+use crate::generate::{self, MadeFile, TicketList};
 use crate::page_program::reply;
-use crate::refusal::{BOX_OFF_PAGE, PHASE};
+use crate::refusal::{BOX_OFF_PAGE, PHASE, PIXELS, SOURCE_DOES_NOT_FIT, TICKET_ENDS};
 use crate::ticket_list::LONGEST_LIST;
 use crate::trial::{hex, Due, Trial};
-use crate::{job, job_list, marks, number_list, ticket_list};
+use crate::{file_job, file_list, job, job_list, marks, number_list, ticket_list};
 
 pub type Driver = fn(u64, u64, &[&str]) -> io::Result<Trial>;
 
-/// Jobs for one run of a job program.
+/// Jobs for one run of a job program or a file program.
 const JOBS_A_RUN: usize = 50;
 
 /// The page program, one run an input.
@@ -89,6 +89,32 @@ pub fn jobs(seed: u64, count: u64, program: &[&str]) -> io::Result<Trial> {
             list.extend(job_list::entry(&job));
             let text = job_list::line(&outcome);
             dues.push(Due { index, input: job_list::told(&job), text });
+        }
+        trial.ask(program, &list, &dues)?;
+    }
+    Ok(trial)
+}
+
+/// The file program, many jobs on files a run, as the job program.
+pub fn files(seed: u64, count: u64, program: &[&str]) -> io::Result<Trial> {
+    let mut trial = Trial::new(seed, count, "files");
+    trial.require("done");
+    // A page that is read out of a file always fits it.
+    for number in (TICKET_ENDS..=PIXELS).filter(|&number| number != SOURCE_DOES_NOT_FIT) {
+        trial.require(&format!("refused {number}"));
+    }
+    generate::file_kinds().iter().for_each(|(kind, _)| trial.require(kind));
+    let indices: Vec<u64> = (0..count).collect();
+    for indices in indices.chunks(JOBS_A_RUN) {
+        let (mut list, mut dues) = (Vec::new(), Vec::new());
+        for &index in indices {
+            let MadeFile { job, kinds } = generate::file_job(seed, index);
+            let outcome = file_job::run(&job);
+            trial.count(&file_list::kind(&outcome), 1);
+            kinds.iter().for_each(|kind| trial.count(kind, 1));
+            list.extend(file_list::entry(&job));
+            let text = file_list::line(&job, &outcome);
+            dues.push(Due { index, input: file_list::told(&job), text });
         }
         trial.ask(program, &list, &dues)?;
     }

@@ -3,11 +3,8 @@
 use crate::lines::{Lines, Pixel, Sides, Way};
 use crate::ticket::{HiddenBox, Ticket, CLOSE, DILATE, ERODE, OPEN};
 
-/// "A hidden pixel comes out as 255 in every finished page."
-pub const HIDDEN_WHITE: u8 = 255;
-
 /// A page between passes, row by row. A hidden pixel has no value at all, so that no pass can
-/// take the 255 it comes out with for a grey.
+/// take the white it comes out with for a grey.
 struct Page {
     sides: Sides,
     greys: Vec<Option<u8>>,
@@ -82,8 +79,9 @@ fn result(page: &Page, lines: Lines, pass: Pass, window: Window, pixel: Pixel) -
     Some(extreme)
 }
 
-/// The finished page, row by row, for a ticket that was read and whose boxes lie on the page.
-pub fn filtered(sides: Sides, greys: &[u8], ticket: &Ticket) -> Vec<u8> {
+/// The finished page, row by row, for a ticket that was read and whose boxes lie on the page. A
+/// hidden pixel comes out as white, whatever number that is.
+pub fn filtered(sides: Sides, greys: &[u8], ticket: &Ticket, white: u8) -> Vec<u8> {
     let (lines, boxes, pixels) = (Lines::of(ticket), ticket.hidden_boxes(), sides.pixels());
     let unhidden = |(&at, &grey): (&Pixel, &u8)| (!hidden(boxes, at)).then_some(grey);
     let mut page = Page { sides, greys: pixels.iter().zip(greys).map(unhidden).collect() };
@@ -92,5 +90,5 @@ pub fn filtered(sides: Sides, greys: &[u8], ticket: &Ticket) -> Vec<u8> {
         let results = pixels.iter().map(|&pixel| result(&page, lines, pass, window, pixel));
         page = Page { sides, greys: results.collect() };
     }
-    page.greys.iter().map(|grey| grey.unwrap_or(HIDDEN_WHITE)).collect()
+    page.greys.iter().map(|grey| grey.unwrap_or(white)).collect()
 }

@@ -4,11 +4,17 @@
 mod boundary;
 mod damage;
 mod draft;
+mod file_draft;
+mod file_headers;
+mod file_kinds;
+mod file_numbers;
+mod files;
 mod inputs;
 mod jobs;
 mod lists;
 
 pub use draft::Draft;
+pub use files::{kinds as file_kinds, MadeFile, CUT_FILES};
 pub use inputs::assemble;
 pub use lists::{ticket_list, TicketList};
 
@@ -67,6 +73,11 @@ pub fn number_input(seed: u64, index: u64) -> Vec<u8> {
 /// A whole job at a random placement, with random old contents.
 pub fn job(seed: u64, index: u64) -> Job {
     jobs::job(&mut Random::new(seed, index))
+}
+
+/// A whole job on a P5 file, with random old contents.
+pub fn file_job(seed: u64, index: u64) -> MadeFile {
+    files::file_job(&mut Random::new(seed, index), index)
 }
 
 pub fn line_sample(seed: u64, index: u64) -> LineSample {

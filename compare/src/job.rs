@@ -7,6 +7,9 @@ use crate::refusal::{self, unless, Refusal};
 use crate::ticket::{self, HiddenBox, Ticket};
 use crate::work;
 
+/// "A hidden pixel comes out as 255 in every finished page."
+pub const WHITE: u8 = 255;
+
 /// All that is lent to a job; output and scratch with their old contents.
 #[derive(Clone, Debug, PartialEq, Eq)]
 pub struct Job {
@@ -73,12 +76,23 @@ fn judged(job: &Job) -> Result<Ticket, Refusal> {
     unless(limits, refusal::BEYOND_LIMITS, 0)?;
     unless(source.fits(job.source.len() as u64), refusal::SOURCE_DOES_NOT_FIT, 0)?;
     unless(output.fits(job.output.len() as u64), refusal::OUTPUT_DOES_NOT_FIT, 0)?;
-    let long_enough = job.scratch.len() as u128 >= scratch_needed(job.width, job.height);
+    judge_scratch_and_boxes(&ticket, job.width, job.height, &job.scratch)?;
+    Ok(ticket)
+}
+
+/// 13, and 14 over the boxes in order: the last judgements of every job.
+pub fn judge_scratch_and_boxes(
+    ticket: &Ticket,
+    width: u64,
+    height: u64,
+    scratch: &[u8],
+) -> Result<(), Refusal> {
+    let long_enough = scratch.len() as u128 >= scratch_needed(width, height);
     unless(long_enough, refusal::SCRATCH_TOO_SHORT, 0)?;
     for (place, hidden_box) in (0..).zip(ticket.hidden_boxes()) {
-        unless(on_page(hidden_box, job.width, job.height), refusal::BOX_OFF_PAGE, place)?;
+        unless(on_page(hidden_box, width, height), refusal::BOX_OFF_PAGE, place)?;
     }
-    Ok(ticket)
+    Ok(())
 }
 
 /// No zero side and not past the page's edge; 65535 + 2 is 65537 here.
@@ -93,7 +107,7 @@ fn finish(job: &Job, ticket: &Ticket, outcome: &mut Outcome) {
     let (source, output) = (job.source_page(), job.output_page());
     let pixels = sides.pixels();
     let greys: Vec<u8> = pixels.iter().map(|&pixel| job.source[source.byte(pixel)]).collect();
-    let results = filter::filtered(sides, &greys, ticket);
+    let results = filter::filtered(sides, &greys, ticket, WHITE);
     for (&pixel, result) in pixels.iter().zip(results) {
         outcome.output[output.byte(pixel)] = result;
     }

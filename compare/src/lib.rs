@@ -1,4 +1,5 @@
-//! Sotrugla's second program: document 01 read once more, as plainly and as slowly as possible.
+//! Sotrugla's second program: document 01, and of document 02 what has landed, read once more, as
+//! plainly and as slowly as possible.
 //!
 //! Nothing here is fast on purpose. Every pixel walks its own line, every line is listed and
 //! counted step by step, so that each function can be held against its sentence in the document.
@@ -10,18 +11,23 @@
 //! - `filter`: erosion, dilation, opening and closing with absent pixels
 //! - `work`: the comparisons of a job, counted block by block
 //! - `job`: a whole job, its answer and the later contents of output tray and scratch
+//! - `pgm`: a P5 file to its header or a refusal, and the header that is written
+//! - `file_job`: a whole job on a P5 file
 //! - `page_program`: standard input of the page program to what it must print
-//! - `ticket_list`, `number_list`, `job_list`: the same for the programs that read tickets, number
-//!   steps, and run jobs
+//! - `ticket_list`, `number_list`, `job_list`, `file_list`: the same for the programs that read
+//!   tickets, number steps, run jobs, and run jobs on files
 //! - `marks`: what a summary counts of a job
 //! - `random`, `generate`: seeded inputs of every kind, for this and for other programs
 //! - `program`: another program run once, held to a time limit
 //! - `trial`: what was printed held against what was due
 //! - `drivers`: each kind of program run over generated inputs
 //!
-//! The library's own job program is `host.c`, beside this source.
+//! The library's own job program is `host.c`, beside this source, and its program for jobs on files
+//! is `file_host.c`.
 
 pub mod drivers;
+pub mod file_job;
+pub mod file_list;
 pub mod filter;
 pub mod generate;
 pub mod job;
@@ -30,6 +36,7 @@ pub mod lines;
 pub mod marks;
 pub mod number_list;
 pub mod page_program;
+pub mod pgm;
 pub mod placement;
 pub mod program;
 pub mod random;

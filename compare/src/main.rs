@@ -5,7 +5,7 @@ use std::process::ExitCode;
 
 use compare::drivers::Driver;
 use compare::page_program::reply;
-use compare::{drivers, generate, job_list, number_list, ticket_list};
+use compare::{drivers, file_list, generate, job_list, number_list, ticket_list};
 
 const USAGE: &str = "usage:
   compare page                            read a page program's input, print what it must print
@@ -13,13 +13,16 @@ const USAGE: &str = "usage:
   compare ticket-list                     read a ticket program's input, print what it must print
   compare number-list                     read a number program's input, print what it must print
   compare job-list                        read a job program's input, print what it must print
+  compare file-list                       read a file program's input, print what it must print
   compare make SEED INDEX                 write one generated input of a page program
   compare make-jobs SEED FIRST COUNT      write generated jobs, an input of a job program
+  compare make-files SEED FIRST COUNT     write generated jobs on files, an input of a file program
 PROGRAM may be several words, the program and its arguments:
   compare pages SEED COUNT PROGRAM..      run a page program over generated inputs and compare
   compare tickets SEED COUNT PROGRAM..    run a ticket program over generated tickets and compare
   compare numbers SEED COUNT PROGRAM..    run a number program over generated samples and compare
-  compare jobs SEED COUNT PROGRAM..       run a job program over generated jobs and compare";
+  compare jobs SEED COUNT PROGRAM..       run a job program over generated jobs and compare
+  compare files SEED COUNT PROGRAM..      run a file program over generated files and compare";
 
 fn main() -> ExitCode {
     let words: Vec<String> = std::env::args().skip(1).collect();
@@ -43,10 +46,14 @@ fn did(words: &[&str]) -> Option<io::Result<ExitCode>> {
         ["number-list"] => answer(number_list::printed),
         ["make", seed, index] => print(&generate::page_input(number(seed)?, number(index)?)),
         ["job-list"] => answer(job_list::printed),
+        ["file-list"] => answer(file_list::printed),
         ["make-jobs", seed, first, count] => {
             let (seed, first, count) = (number(seed)?, number(first)?, number(count)?);
-            let jobs = (first..first.saturating_add(count)).map(|index| generate::job(seed, index));
-            print(&jobs.flat_map(|job| job_list::entry(&job)).collect::<Vec<u8>>())
+            print_all(first, count, |index| job_list::entry(&generate::job(seed, index)))
+        }
+        ["make-files", seed, first, count] => {
+            let (seed, first, count) = (number(seed)?, number(first)?, number(count)?);
+            print_all(first, count, |index| file_list::entry(&generate::file_job(seed, index).job))
         }
         [word, seed, count, ref program @ ..] if !program.is_empty() => {
             drive(driver(word)?, number(seed)?, number(count)?, program)
@@ -73,12 +80,18 @@ fn print(bytes: &[u8]) -> io::Result<ExitCode> {
     Ok(ExitCode::SUCCESS)
 }
 
+/// Prints the entries of a list from the first index on.
+fn print_all(first: u64, count: u64, entry: impl Fn(u64) -> Vec<u8>) -> io::Result<ExitCode> {
+    print(&(first..first.saturating_add(count)).flat_map(entry).collect::<Vec<u8>>())
+}
+
 fn driver(word: &str) -> Option<Driver> {
     match word {
         "pages" => Some(drivers::pages),
         "tickets" => Some(drivers::tickets),
         "numbers" => Some(drivers::numbers),
         "jobs" => Some(drivers::jobs),
+        "files" => Some(drivers::files),
         _ => None,
     }
 }
@@ -86,5 +99,5 @@ fn driver(word: &str) -> Option<Driver> {
 fn drive(driver: Driver, seed: u64, count: u64, program: &[&str]) -> io::Result<ExitCode> {
     let trial = driver(seed, count, program)?;
     print(trial.summary().as_bytes())?;
-    Ok(ExitCode::from(u8::from(trial.differences > 0)))
+    Ok(ExitCode::from(u8::from(trial.failed())))
 }

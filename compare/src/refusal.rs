@@ -1,7 +1,7 @@
-//! The numbers of document 01, "Refusals and what they return".
+//! The numbers of document 01, "Refusals and what they return", and those of wish 1.
 
-/// Why a ticket or a job is refused. The place is a byte index for numbers 1 to 9, a box number
-/// for 14, and 0 for the rest.
+/// Why a ticket, a file or a job is refused. The place is a byte of the ticket for numbers 1 to 9,
+/// a box number for 14, a byte of the file for 15 to 17, and 0 for the rest.
 #[derive(Clone, Copy, Debug, PartialEq, Eq)]
 pub struct Refusal {
     pub number: u8,
@@ -25,6 +25,9 @@ pub const SOURCE_DOES_NOT_FIT: u8 = 11;
 pub const OUTPUT_DOES_NOT_FIT: u8 = 12;
 pub const SCRATCH_TOO_SHORT: u8 = 13;
 pub const BOX_OFF_PAGE: u8 = 14;
+pub const HEADER: u8 = 15;
+pub const MAXIMUM: u8 = 16;
+pub const PIXELS: u8 = 17;
 
 /// The refusal, unless what it asks for holds.
 pub fn unless(holds: bool, number: u8, place: u64) -> Result<(), Refusal> {

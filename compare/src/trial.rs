@@ -9,6 +9,8 @@ use crate::program::{self, Run, TIME_LIMIT};
 const TOLD: u64 = 3;
 /// Of a longer text only the beginning is told: its seed and index make it again.
 const LONGEST_TOLD: usize = 1 << 14;
+/// In a run of so many inputs every kind that is required must be due.
+const ENOUGH: u64 = 5000;
 
 /// One generated input, as it is told, and the text due for it.
 pub struct Due {
@@ -27,11 +29,14 @@ pub struct Trial {
     pub bad_ends: u64,
     /// How often each kind of answer was due, also those that never were.
     pub tally: Vec<(String, u64)>,
+    /// Kinds without which a long run fails: what makes the inputs has lost them.
+    pub required: Vec<String>,
 }
 
 impl Trial {
     pub fn new(seed: u64, inputs: u64, what: &'static str) -> Trial {
-        Trial { seed, inputs, what, differences: 0, bad_ends: 0, tally: Vec::new() }
+        let (differences, bad_ends, tally, required) = (0, 0, Vec::new(), Vec::new());
+        Trial { seed, inputs, what, differences, bad_ends, tally, required }
     }
 
     pub fn count(&mut self, kind: &str, times: u64) {
@@ -48,6 +53,24 @@ impl Trial {
 
     pub fn expect_refusals(&mut self, last: u8) {
         (1..=last).for_each(|number| self.count(&format!("refused {number}"), 0));
+    }
+
+    /// A kind that must be due once at least in a long run.
+    pub fn require(&mut self, kind: &str) {
+        self.count(kind, 0);
+        self.required.push(kind.to_string());
+    }
+
+    /// The required kinds that a long run did not meet.
+    pub fn missed(&self) -> Vec<&str> {
+        let never =
+            self.tally.iter().filter(|(kind, sum)| *sum == 0 && self.required.contains(kind));
+        let enough = self.inputs >= ENOUGH;
+        never.map(|(kind, _)| kind.as_str()).filter(|_| enough).collect()
+    }
+
+    pub fn failed(&self) -> bool {
+        self.differences > 0 || !self.missed().is_empty()
     }
 
     /// Runs a program once, for all that is due in this run. Each text due is one line, but the
@@ -86,12 +109,16 @@ impl Trial {
         }
     }
 
-    /// One line for all inputs, one for each kind of answer, and one for runs that ended badly.
+    /// One line for all inputs, one for each kind of answer, one for each kind that was missed, and
+    /// one for runs that ended badly.
     pub fn summary(&self) -> String {
         let (inputs, what, differences) = (self.inputs, self.what, self.differences);
         let mut text = format!("{inputs} {what}, {differences} differences\n");
         for (kind, times) in &self.tally {
             text += &format!("{kind}: {times}\n");
+        }
+        for kind in self.missed() {
+            text += &format!("never met: {kind}\n");
         }
         text + &format!("ended by a signal or at the time limit: {}\n", self.bad_ends)
     }

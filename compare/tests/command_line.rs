@@ -5,8 +5,9 @@ use std::io::Write;
 use std::process::{Command, Output, Stdio};
 use std::time::Duration;
 
-use compare::generate::{job, page_input};
-use compare::{job_list, program};
+use compare::generate::{file_job, job, page_input};
+use compare::trial::Trial;
+use compare::{file_list, job_list, program};
 
 const COMPARE: &str = env!("CARGO_BIN_EXE_compare");
 
@@ -25,6 +26,8 @@ fn words_that_print() {
     assert_eq!(compare(&["make", "1", "5"], b"").stdout, page_input(1, 5));
     let jobs = [5, 6].map(|index| job_list::entry(&job(1, index))).concat();
     assert_eq!(compare(&["make-jobs", "1", "5", "2"], b"").stdout, jobs);
+    let files = [5, 6].map(|index| file_list::entry(&file_job(1, index).job)).concat();
+    assert_eq!(compare(&["make-files", "1", "5", "2"], b"").stdout, files);
     assert_eq!(compare(&["page"], b"\0\x03\0").stdout, b"bad input\n");
     assert_eq!(compare(&["ticket"], b"").stdout, b"refused 1 at 0\n");
     let ticket = b"\x01\0\x01\x04\x02\0\x01\x02\x03\0\x04\0\x03\xFF\xFE\x04\0\x02\0\x07\
@@ -36,6 +39,8 @@ fn words_that_print() {
     assert_eq!(compare(&["ticket-list"], &list).stdout, lines.as_bytes());
     assert_eq!(compare(&["number-list"], b"\x01\0\x01\0\0\0\0\0\x02\0\x01").stdout, b"0/1 1/0\n");
     assert_eq!(compare(&["job-list"], &[0; 80]).stdout, b"1 0 0 output  scratch \n");
+    let line = b"read 15 0 0 0 0 0 run 1 0 0 0 output  scratch \n";
+    assert_eq!(compare(&["file-list"], &[0; 32]).stdout, line);
 }
 
 #[test]
@@ -44,7 +49,7 @@ fn words_that_say_nothing() {
     for words in [&[][..], &["paper"], &["make", "1"], &["make-jobs", "1", "2"], &no_number] {
         assert_eq!(compare(words, b"").status.code(), Some(2));
     }
-    for word in ["pages", "tickets", "numbers", "jobs"] {
+    for word in ["pages", "tickets", "numbers", "jobs", "files"] {
         assert_eq!(compare(&[word, "1", "1"], b"").status.code(), Some(2));
         assert_eq!(compare(&[word, "1", "1", "/no/such/program"], b"").status.code(), Some(2));
     }
@@ -74,6 +79,7 @@ fn drivers_agree_with_this_reading() {
         ("tickets", 3000, "ticket-list", "3000 tickets"),
         ("numbers", 60, "number-list", "60 line samples"),
         ("jobs", 120, "job-list", "120 jobs"),
+        ("files", 120, "file-list", "120 files"),
     ] {
         let (text, _) = driven(word, count, &[COMPARE, answers]);
         assert!(text.starts_with(&format!("{what}, 0 differences\n")), "{text}");
@@ -112,6 +118,33 @@ fn lines_of_jobs_are_compared_whole() {
     assert!([10, 60, 110].iter().all(|at| told.contains(&format!("at seed 2 index {at}\n"))));
     assert_eq!(told.matches("the program ended by signal 11").count(), 3);
     assert!(told.contains("120 jobs, 3 differences\n") && told.ends_with("time limit: 3\n"));
+}
+
+#[test]
+fn lines_of_files_are_compared_whole() {
+    for (wrong, least) in [
+        ("/..$/00/", 20),
+        ("/run 0 0 [0-9]* [0-9]*/run 0 0 7 7/", 20),
+        ("/read 15 [0-9]*/read 15 7/", 10),
+        ("/ff\\(.*scratch\\)/fe\\1/", 20),
+        ("/$/ file changed/", 120),
+    ] {
+        assert!(by_shell("files", 120, &format!("compare file-list | sed 's{wrong}'")).1 >= least);
+    }
+}
+
+#[test]
+fn a_long_run_without_a_required_kind_fails() {
+    let mut trial = Trial::new(1, 5000, "inputs");
+    trial.require("done");
+    trial.require("refused 1");
+    trial.count("done", 1);
+    assert!(trial.failed() && trial.summary().contains("\nnever met: refused 1\n"));
+    trial.inputs = 4999;
+    assert!(!trial.failed() && !trial.summary().contains("never met"));
+    trial.inputs = 5000;
+    trial.count("refused 1", 1);
+    assert!(!trial.failed() && !trial.summary().contains("never met"));
 }
 
 #[test]

@@ -2,14 +2,16 @@
 
 use std::collections::BTreeSet;
 
-use compare::generate::{self, ticket_list};
+use compare::generate::{self, ticket_list, MadeFile, CUT_FILES};
 use compare::job::run;
 use compare::job_list::{entry, first};
 use compare::marks;
 use compare::number_list::kind;
 use compare::page_program::{reply, Reply};
+use compare::pgm;
 use compare::placement::scratch_needed;
 use compare::ticket::{read, shown, CLOSE, ERODE};
+use compare::{file_job, file_list};
 
 #[test]
 fn two_thousand_page_inputs_bring_every_answer() {
@@ -76,6 +78,74 @@ fn jobs_bring_all_that_is_counted_and_write_only_what_they_may() {
     }
     assert_eq!(numbers, (0..=14).collect());
     assert_eq!(missed, BTreeSet::new());
+}
+
+#[test]
+fn files_are_of_every_kind_and_meet_every_answer() {
+    let (mut numbers, mut missed, mut done) = (BTreeSet::new(), BTreeSet::new(), BTreeSet::new());
+    missed.extend(generate::file_kinds().into_iter().map(|(kind, _)| kind));
+    for index in 0..2000 {
+        let MadeFile { job, kinds } = generate::file_job(3, index);
+        let outcome = file_job::run(&job);
+        let file_job::Answer { refusal, work, length, .. } = outcome.answer;
+        numbers.insert(refusal);
+        missed.retain(|kind| !kinds.contains(kind));
+        assert_eq!(file_list::first(&file_list::entry(&job)), Some((job.clone(), &[][..])));
+        if refusal != 0 {
+            assert_eq!((work, length), (0, 0));
+            assert_eq!((&outcome.output, &outcome.scratch), (&job.output, &job.scratch));
+            continue;
+        }
+        let ticket = read(&job.ticket).expect("it is done");
+        done.insert((ticket.operation, ticket.line, ticket.count > 0));
+        let (header, length) = (pgm::read(&job.file).expect("it is done"), length as usize);
+        let written = pgm::read(&outcome.output[..length]).expect("it is written");
+        let sides = [header.width, header.height, u64::from(header.maximum)];
+        assert_eq!([written.width, written.height, u64::from(written.maximum)], sides);
+        assert_eq!(written.start + written.width * written.height, length as u64);
+        assert_eq!(outcome.output[length..], job.output[length..]);
+        let needed = scratch_needed(header.width, header.height) as usize;
+        assert!(outcome.scratch[..needed].iter().all(|&byte| byte == 0));
+        assert_eq!(outcome.scratch[needed..], job.scratch[needed..]);
+    }
+    assert_eq!(numbers, (0..=17).filter(|&number| number != 11).collect());
+    assert_eq!(missed, BTreeSet::new());
+    // Four operations along two kinds of line, each with boxes and without.
+    assert_eq!(done.len(), 4 * 2 * 2);
+}
+
+#[test]
+fn a_file_that_is_odd_in_one_way_meets_what_that_brings() {
+    let mut met = BTreeSet::new();
+    for MadeFile { job, kinds } in (0..5000).map(|index| generate::file_job(9, index)) {
+        let number = pgm::shown(&job.file).0.number;
+        match kinds[..] {
+            [] => assert_eq!(number, 0),
+            [one] => {
+                let due = generate::file_kinds().into_iter().find(|&(kind, _)| kind == one);
+                let (_, answers) = due.expect("every kind has its answers");
+                assert!(answers.contains(&number), "{one}: {number}");
+                met.extend([(one, number)]);
+            }
+            _ => {}
+        }
+    }
+    for (kind, answers) in generate::file_kinds().into_iter().filter(|kind| kind.1.len() < 4) {
+        // A box over a flaw is never a kind alone.
+        let alone = kind != "pixel above the maximum under a box";
+        assert!(!alone || answers.iter().all(|&number| met.contains(&(kind, number))), "{kind}");
+    }
+}
+
+#[test]
+fn small_files_are_cut_at_every_byte() {
+    let made = (0..5000).map(|index| generate::file_job(4, index));
+    let files: BTreeSet<_> = made.map(|made| made.job.file).collect();
+    for file in CUT_FILES {
+        assert!((0..=file.len()).all(|end| files.contains(&file[..end])));
+    }
+    let read = CUT_FILES.map(|file| pgm::shown(file).0.number);
+    assert_eq!(read, [0, 0, 15, 16]);
 }
 
 #[test]

@@ -2,6 +2,7 @@
 
 use compare::filter::{filtered, hidden, Pass};
 use compare::generate::{line_sample, Draft, LineSample};
+use compare::job::WHITE;
 use compare::lines::{Lines, Pixel, Sides, Way};
 use compare::random::Random;
 use compare::ticket::{read, Ticket, CLOSE, CONNECTED, DILATE, ERODE, OPEN};
@@ -81,7 +82,7 @@ fn by_listed_lines(sides: Sides, greys: &[u8], ticket: &Ticket) -> Vec<u8> {
 fn walks_and_listed_lines_agree() {
     for index in 0..400 {
         let (sides, greys, ticket) = page_and_ticket(index);
-        let results = filtered(sides, &greys, &ticket);
+        let results = filtered(sides, &greys, &ticket, WHITE);
         assert_eq!(results, by_listed_lines(sides, &greys, &ticket), "{ticket:?}");
     }
 }
@@ -96,9 +97,9 @@ fn openings_and_closings_keep_their_laws_and_hidden_greys_do_not_matter() {
         }
         for operation in [OPEN, CLOSE] {
             ticket.operation = operation;
-            let once = filtered(sides, &greys, &ticket);
-            assert_eq!(filtered(sides, &once, &ticket), once, "twice is once: {ticket:?}");
-            assert_eq!(filtered(sides, &other, &ticket), once);
+            let once = filtered(sides, &greys, &ticket, WHITE);
+            assert_eq!(filtered(sides, &once, &ticket, WHITE), once, "twice is once: {ticket:?}");
+            assert_eq!(filtered(sides, &other, &ticket, WHITE), once);
             for ((at, before), after) in sides.pixels().into_iter().zip(&greys).zip(&once) {
                 let covered = hidden(ticket.hidden_boxes(), at);
                 let ordered = if operation == OPEN { after <= before } else { after >= before };
@@ -148,7 +149,7 @@ fn work_keeps_its_bound_and_is_counted_by_blocks() {
 /// Whether each step up to L-1 from x on a row can change an opening's or closing's result at x.
 fn reach_is_exact(width: i64, x: i64, ticket: &Ticket) -> bool {
     let (sides, length) = (Sides { width, height: 1 }, i64::from(ticket.length));
-    let at_x = |greys: &[u8]| filtered(sides, greys, ticket)[x as usize];
+    let at_x = |greys: &[u8]| filtered(sides, greys, ticket, WHITE)[x as usize];
     (x - (length - 1)..=x + (length - 1)).all(|step| {
         // One run of L steps holds x and the step; breaking it at the step must show at x.
         let run = x.min(step)..x.min(step) + length;

@@ -43,7 +43,7 @@ fn fitting_job(random: &mut Random) -> Job {
 }
 
 /// A valid ticket for one to three rows or columns of up to 8192 pixels, often along them.
-fn long_ticket(random: &mut Random) -> (Vec<u8>, u16, u16) {
+pub fn long_ticket(random: &mut Random) -> (Vec<u8>, u16, u16) {
     let any = random.between(1000, 8192) as u16;
     let (long, few) = (random.pick(&[8192, 8191, any]), random.between(1, 3) as u16);
     let across = random.one_in(2);
