@@ -1,4 +1,5 @@
-/* Sotrugla: one grey page of a tray filtered along lines into another tray, as a job ticket orders.
+/* Sotrugla: one grey page of a tray filtered along lines into another tray, as a job ticket orders; or the
+ * page of a raw Netpbm grey file (P5) into another such file.
  *
  * A page is placed in a tray of bytes by its offset, sides and stride: the pixel at column c, row r is
  * byte offset + r * stride + c. Source and output pages share their sides.
@@ -6,7 +7,7 @@
  * Every ticket, placement and buffer length gets an answer; what each function answers and writes is
  * proved for all of them. Four things the library cannot see, and the caller must keep:
  *   - a buffer has as many bytes (or numbers) as its length says; a buffer of length 0 may be NULL;
- *   - the buffers of one call do not overlap, but for buffers that are only read: ticket and source may;
+ *   - the buffers of one call do not overlap, but for those that are only read: ticket and source, or file;
  *   - nobody else writes to a buffer, or reads one that is written, while a call runs;
  *   - a call needs 256 KiB of stack.
  * The caller owns every buffer before, during and after a call. Nothing is allocated or kept, there is
@@ -17,7 +18,7 @@
 #include <stddef.h>
 #include <stdint.h>
 
-#define SOTRUGLA_VERSION "0.1.0"
+#define SOTRUGLA_VERSION "0.2.0"
 
 #if SIZE_MAX != UINT64_MAX
 #error "Sotrugla is for machines whose sizes are 64-bit numbers"
@@ -28,8 +29,9 @@ extern "C" {
 #endif
 
 /* An answer. refusal is 0 for a finished page, else the refusal's number, and place says where: the
- * ticket's byte where the field at fault starts (refusals 1 to 9), the number of the box from 0 (14),
- * the numbers needed (100), else 0. work is the count of comparisons; a refusal has 0. */
+ * ticket's byte where the field at fault starts (refusals 1 to 9), the number of the box from 0 (14), the
+ * file's first byte at fault, or its length where it ends too soon (15 to 17), the numbers needed (100),
+ * else 0. work is the count of comparisons; a refusal has 0. */
 struct sotrugla_outcome {
     uint64_t refusal, place, work;
 };
@@ -51,6 +53,9 @@ enum {
     SOTRUGLA_OUTPUT_TOO_SHORT = 12,
     SOTRUGLA_SCRATCH_TOO_SHORT = 13,
     SOTRUGLA_BAD_BOX = 14,
+    SOTRUGLA_BAD_HEADER = 15,
+    SOTRUGLA_BAD_MAXIMUM = 16,
+    SOTRUGLA_BAD_PIXEL = 17,
     SOTRUGLA_NUMBERS_TOO_FEW = 100
 };
 
@@ -100,10 +105,56 @@ static inline struct sotrugla_outcome sotrugla_read(const uint8_t *ticket, size_
 }
 
 /* Whether a box of the ticket holds the pixel at this column and row: 1 if so, else 0. Such a pixel comes
- * out as 255 in every finished page. A refused ticket hides nothing, as it is read with no boxes. Boxes
- * are not held to a page: that is for the job to do. Each call reads the whole ticket: who asks about
- * every pixel of a large page does better to read the boxes once, by sotrugla_read. */
+ * out white in every finished page: as 255, or as the maximum of a P5 file. A refused ticket hides nothing,
+ * as it is read with no boxes. Boxes are not held to a page: that is for the job to do. Each call reads the
+ * whole ticket: who asks about every pixel of a large page does better to read the boxes once, by
+ * sotrugla_read. */
 uint64_t sotrugla_is_hidden(const uint8_t *ticket, size_t ticket_length, size_t column, size_t row);
+
+/* A raw Netpbm grey file (P5) as it is read. refusal and place are as in struct sotrugla_outcome, and at a
+ * refusal the other numbers are 0. The pixel at column c, row r is byte start + r * width + c of the file,
+ * and at most maximum, which is 1 to 255. */
+struct sotrugla_pgm {
+    uint64_t refusal, place, width, height, maximum, start;
+};
+
+/* Reads a file alone: the header of its first image, and whether its pixels keep to it.
+ *   file      read only; images behind the first are not looked at
+ * A header is `P5`, then width, height and maximum in decimal digits, each behind white space (blank, tab,
+ * LF, CR, VT, FF), then one byte of white space; the pixels follow, a byte each. A comment before that byte,
+ * from `#` through the next CR or LF, counts as nothing, even in the middle of a number.
+ * Refusals, in this order:
+ *   15   the header is not so, or the maximum is 0, which is at fault at its first digit
+ *   16   the maximum is above 255: its first digit
+ *   17   one of the first width * height pixels is above the maximum, or there are fewer
+ *   10   a side is not 1 to 8192 */
+struct sotrugla_pgm sotrugla_read_pgm(const uint8_t *file, size_t file_length);
+
+/* The longest header that is written: P5, 8192, 8192 and 255, each with its newline. */
+enum { SOTRUGLA_PGM_HEADER = 17 };
+
+/* An answer, as struct sotrugla_outcome is. length is that of the written file; a refusal has 0. */
+struct sotrugla_written {
+    uint64_t refusal, place, work, length;
+};
+
+/* Filters the page of a file into a file of the same sides and maximum. Pixels are filtered as they are; one
+ * that the ticket hides comes out as the file's maximum.
+ *   ticket    read only; the job ticket's bytes
+ *   file      read only, as sotrugla_read_pgm reads it
+ *   output    written from its first byte on: `P5`, width, height and maximum, each with one newline, then
+ *             the pixels. The bytes behind them keep their values; at a refusal nothing is written.
+ *             SOTRUGLA_PGM_HEADER + width * height bytes are always enough
+ *   scratch   as in sotrugla_run
+ * What output and scratch held before changes nothing in the answer or the written file.
+ * Refusals, in this order: the ticket's 1 to 9; the file's 15, 16, 17 and 10; 12 where the output is shorter
+ * than the file to be written; 13; 14. A caller that makes room for the sides that sotrugla_read_pgm
+ * answers, 0 for a refused file, never meets 12 or 13.
+ * Cost: a reading of the file, and then as sotrugla_run. */
+struct sotrugla_written sotrugla_run_pgm(const uint8_t *ticket, size_t ticket_length,
+                                         const uint8_t *file, size_t file_length, uint8_t *output,
+                                         size_t output_length, uint8_t *scratch,
+                                         size_t scratch_length);
 
 /* A job by names: a placement is hard to get wrong where every number says what it is. */
 struct sotrugla_job {
@@ -146,6 +197,9 @@ static inline const char *sotrugla_sentence(uint64_t refusal)
         "the output page does not fit its tray",
         "the scratch is too short",
         "a hidden box has a zero side or passes the page's edge",
+        "the file is no raw grey Netpbm file (P5), its header is damaged, or its maximum is 0",
+        "the file's maximum is above 255",
+        "a pixel of the file is above its maximum, or the file has too few pixels",
     };
     if (refusal == SOTRUGLA_NUMBERS_TOO_FEW)
         return "the buffer of numbers is too short";

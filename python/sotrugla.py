@@ -14,6 +14,9 @@ call, and must keep off its buffers.
     >>> list(output)
     [1, 1, 5]
 
+A page that arrives as a raw Netpbm grey file (P5) leaves as one: run_pgm takes the file's bytes and gives
+those of another.
+
 The shared library is the file that SOTRUGLA_LIBRARY names, else libsotrugla.so beside this file, else
 the one that ./build wrote, else the one that the system finds.
 """
@@ -43,13 +46,17 @@ SENTENCES = {
     12: "the output page does not fit its tray",
     13: "the scratch is too short",
     14: "a hidden box has a zero side or passes the page's edge",
+    15: "the file is no raw grey Netpbm file (P5), its header is damaged, or its maximum is 0",
+    16: "the file's maximum is above 255",
+    17: "a pixel of the file is above its maximum, or the file has too few pixels",
     100: "the buffer of numbers is too short",
 }
 
 
 class Refused(Exception):
     """A refused job: its number, and its place: the ticket's byte where the field at fault starts (1 to 9), the
-    number of the box from 0 (14), the numbers needed (100), else 0. Nothing was written."""
+    number of the box from 0 (14), the file's first byte at fault, or its length where it ends too soon (15 to 17), the
+    numbers needed (100), else 0. Nothing was written."""
 
     def __init__(self, refusal, place):
         self.refusal, self.place, self.sentence = refusal, place, SENTENCES[refusal]
@@ -58,6 +65,8 @@ class Refused(Exception):
             where = f" (the field at byte {place} of the ticket)"
         if refusal == 14:
             where = f" (box {place}, counted from 0)"
+        if 15 <= refusal <= 17:
+            where = f" (byte {place} of the file, counted from 0, or its end)"
         if refusal == 100:
             where = f" (it needs {place} numbers)"
         super().__init__(f"refused {refusal} at {place}: {self.sentence}{where}")
@@ -77,6 +86,23 @@ class Spot(typing.NamedTuple):
 
     offset: int
     stride: int
+
+
+class Pgm(typing.NamedTuple):
+    """A file's first image, which can be filtered: the pixel at column c, row r is byte start + r * width + c of the
+    file, and at most maximum, which is 1 to 255."""
+
+    width: int
+    height: int
+    maximum: int
+    start: int
+
+
+class Written(typing.NamedTuple):
+    """A file that was written, and how many comparisons it took."""
+
+    file: bytes
+    work: int
 
 
 class HiddenBox(typing.NamedTuple):
@@ -180,21 +206,71 @@ def run(ticket, page, source, spot, output, scratch=None):
         outcome = _library.sotrugla_run(
             *read[0], *map(_size, numbers), *read[1], *written[0], *written[1]
         )
-    return _judged(outcome)
+    return _judged(outcome).work
 
 
-def _judged(outcome):
-    if outcome.refusal:
-        raise Refused(outcome.refusal, outcome.place)
-    return outcome.work
+def read_pgm(file):
+    """A raw Netpbm grey file (P5) alone, its first image: header and pixels. Raises Refused, 15, 16, 17 and 10, in this
+    order.
+
+    >>> read_pgm(b"P5 3 1 # a row\\n 9\\n" + bytes([9, 1, 5]))
+    Pgm(width=3, height=1, maximum=9, start=18)
+    """
+    with _lent(file, False) as lent:
+        shown = _judged(_library.sotrugla_read_pgm(*lent))
+    return Pgm(shown.width, shown.height, shown.maximum, shown.start)
+
+
+def run_pgm(ticket, file):
+    """Filters the page of a file into a file of the same sides and maximum, which is answered as bytes, with the work. A
+    hidden pixel comes out as the file's maximum. The ticket is a Ticket or its bytes, the file any buffer of bytes.
+    Raises Refused: the ticket's refusals, then the file's, then 14.
+
+    >>> ticket = Ticket(OPEN, CONNECTED, dx=1, dy=0, length=2).hide(left=2, top=0, width=1, height=1)
+    >>> run_pgm(ticket, b"P5 3 1 9\\n" + bytes([9, 1, 5])).file
+    b'P5\\n3\\n1\\n9\\n\\x01\\x01\\t'
+    """
+    with contextlib.ExitStack() as lent:
+        read = [lent.enter_context(_lent(buffer, False)) for buffer in (_bytes_of(ticket), file)]
+        # A refused file answers 0 for its sides. The job below says what is refused: it may be the ticket.
+        shown = _library.sotrugla_read_pgm(*read[1])
+        output = bytearray(_PGM_HEADER + shown.width * shown.height)
+        scratch = bytearray(scratch_needed(shown.width, shown.height))
+        written = [lent.enter_context(_lent(buffer, True)) for buffer in (output, scratch)]
+        answer = _judged(_library.sotrugla_run_pgm(*read[0], *read[1], *written[0], *written[1]))
+    return Written(bytes(memoryview(output)[: answer.length]), answer.work)
+
+
+def _judged(answer):
+    """The answer, if it is no refusal."""
+    if answer.refusal:
+        raise Refused(answer.refusal, answer.place)
+    return answer
 
 
 # Eight numbers, and four for each of 64 box places.
 _NUMBERS = 8 + 4 * 64
 
 
+# The longest header that is written.
+_PGM_HEADER = 17
+
+
+def _numbers(*names):
+    """The fields of a struct of 64-bit numbers."""
+    return [(name, ctypes.c_uint64) for name in names]
+
+
 class _Outcome(ctypes.Structure):
-    _fields_ = [("refusal", ctypes.c_uint64), ("place", ctypes.c_uint64), ("work", ctypes.c_uint64)]
+    _fields_ = _numbers("refusal", "place", "work")
+
+
+class _Pgm(ctypes.Structure):
+    _fields_ = _numbers("refusal", "place", "width", "height", "maximum", "start")
+
+
+class _Written(ctypes.Structure):
+    _fields_ = _numbers("refusal", "place", "work", "length")
 
 
 class _View(ctypes.Structure):
@@ -263,6 +339,10 @@ def _load():
     library.sotrugla_read_ticket.restype = _Outcome
     library.sotrugla_is_hidden.argtypes = buffer + [ctypes.c_size_t] * 2
     library.sotrugla_is_hidden.restype = ctypes.c_uint64
+    library.sotrugla_read_pgm.argtypes = buffer
+    library.sotrugla_read_pgm.restype = _Pgm
+    library.sotrugla_run_pgm.argtypes = buffer * 4
+    library.sotrugla_run_pgm.restype = _Written
     return library
 
 

@@ -18,12 +18,17 @@
 //! assert_eq!((work, output), (6, [1, 1, 5]));
 //! # Ok::<(), sotrugla::Refused>(())
 //! ```
+//!
+//! A page that arrives as a raw Netpbm grey file (P5) leaves as one: [`filter_pgm`] takes the file's
+//! bytes and gives those of another.
 
 mod library;
 mod page;
+mod pgm;
 mod refusal;
 mod ticket;
 
 pub use page::{filter, Page, Spot};
+pub use pgm::{filter_pgm, read_pgm, Pgm, Written};
 pub use refusal::{Refusal, Refused};
 pub use ticket::{HiddenBox, Line, Operation, Ticket, TicketBytes};

@@ -7,6 +7,27 @@ pub struct Outcome {
     pub work: u64,
 }
 
+#[repr(C)]
+pub struct Pgm {
+    pub refusal: u64,
+    pub place: u64,
+    pub width: u64,
+    pub height: u64,
+    pub maximum: u64,
+    pub start: u64,
+}
+
+#[repr(C)]
+pub struct Written {
+    pub refusal: u64,
+    pub place: u64,
+    pub work: u64,
+    pub length: u64,
+}
+
+/// The longest header that `sotrugla_run_pgm` writes.
+pub const PGM_HEADER: usize = 17;
+
 /// How many numbers `sotrugla_read_ticket` writes: eight, and four for each of 64 box places.
 pub const NUMBERS: usize = 8 + 4 * 64;
 
@@ -43,4 +64,17 @@ extern "C" {
         column: usize,
         row: usize,
     ) -> u64;
+
+    pub fn sotrugla_read_pgm(file: *const u8, file_length: usize) -> Pgm;
+
+    pub fn sotrugla_run_pgm(
+        ticket: *const u8,
+        ticket_length: usize,
+        file: *const u8,
+        file_length: usize,
+        output: *mut u8,
+        output_length: usize,
+        scratch: *mut u8,
+        scratch_length: usize,
+    ) -> Written;
 }

@@ -75,7 +75,7 @@ pub fn filter(
 ) -> Result<u64, Refused> {
     let ticket = ticket.as_bytes();
     // SAFETY: each pointer and length is one slice's, and a slice lent for writing overlaps no other.
-    judged(unsafe {
+    let outcome = unsafe {
         library::sotrugla_run(
             ticket.as_ptr(),
             ticket.len(),
@@ -92,5 +92,7 @@ pub fn filter(
             scratch.as_mut_ptr(),
             scratch.len(),
         )
-    })
+    };
+    judged(outcome.refusal, outcome.place)?;
+    Ok(outcome.work)
 }

@@ -1,6 +1,5 @@
 //! The refusals, each with a sentence for an operator.
 
-use crate::library::Outcome;
 use std::error::Error;
 use std::fmt;
 
@@ -23,13 +22,16 @@ pub enum Refusal {
     OutputTooShort = 12,
     ScratchTooShort = 13,
     BadBox = 14,
+    BadHeader = 15,
+    BadMaximum = 16,
+    BadPixel = 17,
     NumbersTooFew = 100,
 }
 
 use Refusal::*;
 
 /// All of them, in the order of their numbers.
-const SENTENCES: [(Refusal, &str); 15] = [
+const SENTENCES: [(Refusal, &str); 18] = [
     (TicketEnds, "the ticket ends inside a field, or before one of its first six fields"),
     (WrongTag, "a field has another tag than the one due"),
     (WrongLength, "a field has the wrong length"),
@@ -44,6 +46,12 @@ const SENTENCES: [(Refusal, &str); 15] = [
     (OutputTooShort, "the output page does not fit its tray"),
     (ScratchTooShort, "the scratch is too short"),
     (BadBox, "a hidden box has a zero side or passes the page's edge"),
+    (
+        BadHeader,
+        "the file is no raw grey Netpbm file (P5), its header is damaged, or its maximum is 0",
+    ),
+    (BadMaximum, "the file's maximum is above 255"),
+    (BadPixel, "a pixel of the file is above its maximum, or the file has too few pixels"),
     (NumbersTooFew, "the buffer of numbers is too short"),
 ];
 
@@ -64,7 +72,8 @@ impl Refusal {
 }
 
 /// A refused job. The place is the ticket's byte where the field at fault starts (refusals 1 to 9),
-/// the number of the box from 0 (14), the numbers needed (100), else 0.
+/// the number of the box from 0 (14), the file's first byte at fault, or its length where it ends too
+/// soon (15 to 17), the numbers needed (100), else 0.
 #[derive(Clone, Copy, Debug, PartialEq, Eq)]
 pub struct Refused {
     pub refusal: Refusal,
@@ -83,6 +92,7 @@ impl fmt::Display for Refused {
         match self.refusal.number() {
             1..=9 => write!(f, " (the field at byte {} of the ticket)", self.place),
             14 => write!(f, " (box {}, counted from 0)", self.place),
+            15..=17 => write!(f, " (byte {} of the file, counted from 0, or its end)", self.place),
             100 => write!(f, " (it needs {} numbers)", self.place),
             _ => Ok(()),
         }
@@ -91,13 +101,13 @@ impl fmt::Display for Refused {
 
 impl Error for Refused {}
 
-/// The work of a finished page, or the refusal.
-pub fn judged(outcome: Outcome) -> Result<u64, Refused> {
-    if outcome.refusal == 0 {
-        return Ok(outcome.work);
+/// An answer's refusal and place: nothing, where it is finished.
+pub fn judged(refusal: u64, place: u64) -> Result<(), Refused> {
+    if refusal == 0 {
+        return Ok(());
     }
-    let (refusal, _) = numbered(outcome.refusal).expect("the library answers known refusals alone");
-    Err(Refused { refusal, place: outcome.place })
+    let (refusal, _) = numbered(refusal).expect("the library answers known refusals alone");
+    Err(Refused { refusal, place })
 }
 
 #[cfg(test)]
@@ -106,7 +116,7 @@ mod tests {
 
     #[test]
     fn sentences_stand_in_the_order_of_the_numbers() {
-        for ((refusal, sentence), number) in SENTENCES.into_iter().zip((1..=14).chain([100])) {
+        for ((refusal, sentence), number) in SENTENCES.into_iter().zip((1..=17).chain([100])) {
             assert_eq!(refusal.number(), number);
             assert_eq!(refusal.sentence(), sentence);
         }
@@ -114,7 +124,7 @@ mod tests {
 
     #[test]
     fn a_short_buffer_says_how_many_numbers_it_needs() {
-        let refused = judged(Outcome { refusal: 100, place: 264, work: 0 }).unwrap_err();
+        let refused = judged(100, 264).unwrap_err();
         assert_eq!(refused, Refused { refusal: NumbersTooFew, place: 264 });
         assert_eq!(
             refused.to_string(),

@@ -141,10 +141,11 @@ impl TicketBytes {
     pub fn read(&self) -> Result<Ticket, Refused> {
         let mut numbers = [0; library::NUMBERS];
         // SAFETY: each pointer and length is one slice's, and nothing overlaps the array lent here.
-        judged(unsafe {
+        let outcome = unsafe {
             let (ticket, length) = (self.0.as_ptr(), self.0.len());
             library::sotrugla_read_ticket(ticket, length, numbers.as_mut_ptr(), numbers.len())
-        })?;
+        };
+        judged(outcome.refusal, outcome.place)?;
         Ok(shown(&numbers))
     }
 

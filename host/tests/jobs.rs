@@ -101,7 +101,8 @@ fn is_of_today(refusal: Refusal) -> bool {
     match refusal {
         TicketEnds | WrongTag | WrongLength | Unknown | TooManyBoxes => true,
         BadVector | BadLength | BadOrigin | BadPhase | BadSides => true,
-        SourceTooShort | OutputTooShort | ScratchTooShort | BadBox | NumbersTooFew => true,
+        SourceTooShort | OutputTooShort | ScratchTooShort | BadBox => true,
+        BadHeader | BadMaximum | BadPixel | NumbersTooFew => true,
         _ => false,
     }
 }
