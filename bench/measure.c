@@ -4,6 +4,7 @@
  *   memcpy       page, drawing, pixels, seconds, seconds through pages in turn
  *   time         page, drawing, program, operation, dx, dy, L, boxes, pixels timed, seconds, calls
  *   document001  operation, degrees, pixels, seconds of ours, by pixel, by page
+ *   reading      page, drawing, dx, dy, L, pixels, seconds of reading its P5 file, of an opening
  * bench/report.py makes the table of it. With --quick a small part is measured. */
 #include <malloc.h>
 #include <stdio.h>
@@ -13,6 +14,7 @@
 #include "document001.h"
 #include "memory.h"
 #include "plan.h"
+#include "reading.h"
 #include "timing.h"
 
 enum { BOXES = 64 };
@@ -153,6 +155,7 @@ int main(int count, char **words)
         printf("program\t%s\t%s\n", programs[program]->name, programs[program]->version());
     check(quick ? &QUICK_PLAN : &A4_PLAN);
     repeat_document001(quick ? 15 : 1, 3);
+    measure_reading(quick ? &QUICK_PLAN : &A4_PLAN);
     measure(quick ? &QUICK_PLAN : &A4_PLAN);
     if (!quick)
         measure(&LARGEST_PLAN);

@@ -25,6 +25,14 @@ class Time(typing.NamedTuple):
     pixels: int  # timed: fewer than the page has where a call on it would take too long
 
 
+class Reading(typing.NamedTuple):
+    """ns a pixel of reading a page's P5 file, and of an opening of that page."""
+
+    ns: float
+    opening_ns: float
+    pixels: int
+
+
 class Copy(typing.NamedTuple):
     """ns a pixel of a memcpy of the page, and of one through pages in turn."""
 
@@ -41,7 +49,7 @@ class Measured:
     def __init__(self, path):
         self.facts, self.versions, self.checked = {}, {}, []
         self.copies, self.times = {}, collections.defaultdict(dict)
-        self.document001 = collections.defaultdict(list)
+        self.document001, self.readings = collections.defaultdict(list), {}
         with open(path, encoding="utf-8") as lines:
             for line in lines:
                 self._take(*line.rstrip("\n").split("\t"))
@@ -58,6 +66,8 @@ class Measured:
             self._take_time(*words)
         elif kind == "document001":
             self.document001[words[0]].append([float(word) for word in words[3:6]])
+        elif kind == "reading":
+            self._take_reading(*words)
         else:
             self.facts[kind] = words[0]
 
@@ -65,6 +75,10 @@ class Measured:
         case = Case(page, drawing, operation, (int(dx), int(dy)), int(length))
         name = BOXED if int(boxes) else program
         self.times[case][name] = Time(1e9 * float(seconds) / int(pixels), int(pixels))
+
+    def _take_reading(self, page, drawing, dx, dy, length, pixels, *seconds):
+        case = Case(page, drawing, "opening", (int(dx), int(dy)), int(length))
+        self.readings[case] = Reading(*(1e9 * float(word) / int(pixels) for word in seconds), int(pixels))
 
     def copy_of(self, case):
         return self.copies[case.page, case.drawing]

@@ -94,9 +94,17 @@ def speed_up(times, column, name):
     return f"{name} {mean:.0f} us, speed-up {mean / mean_us(times, 0):.1f} (least {lowest:.1f})"
 
 
+def readings(measured):
+    yield "Reading a P5 file (sotrugla_read_pgm): its header, and its pixels held to a maximum of 254; beside an opening of that page"
+    for case, (ns, opening, pixels) in measured.readings.items():
+        times = f"reading {ns:.4f} ns a pixel, {ns * pixels / 1e6:.3f} ms; opening {opening:.3f} ns, {opening * pixels / 1e6:.2f} ms"
+        yield f"{case}: {times}; reading / opening {ns / opening:.3f}"
+    yield ""
+
+
 def main(measured_path, table_path, plot_path):
     measured = Measured(measured_path)
-    lines = [*head(measured), *table(measured), *document001(measured), *verdicts.lines(measured)]
+    lines = [*head(measured), *table(measured), *document001(measured), *readings(measured), *verdicts.lines(measured)]
     text = "\n".join(lines) + "\n"
     with open(table_path, "w", encoding="utf-8") as out:
         out.write(text)

@@ -9,9 +9,10 @@ def lines(measured):
     yield from _faster_than_opencv(measured)
     yield from _near_memcpy(measured)
     yield from _cheap_boxes(measured)
+    yield from _cheap_reading(measured)
 
 
-def _verdict(what, figures, limit, least=False):
+def _verdict(what, figures, limit, least=False, digits=2):
     """figures: a ratio for each case. At most the limit, or with least at least, else the case is named."""
     if not figures:
         yield f"  not measured  {what}"
@@ -20,9 +21,9 @@ def _verdict(what, figures, limit, least=False):
     worst = (min if least else max)(figures, key=figures.get)
     yield (
         f"  {'MISSED' if missed else 'met'}  {what}: {len(figures) - len(missed)} of {len(figures)} cases;"
-        f" the worst {figures[worst]:.2f} ({worst})"
+        f" the worst {figures[worst]:.{digits}f} ({worst})"
     )
-    yield from (f"      misses: {case}: {ratio:.2f}" for case, ratio in missed.items())
+    yield from (f"      misses: {case}: {ratio:.{digits}f}" for case, ratio in missed.items())
 
 
 def _openings(measured, length=None):
@@ -71,3 +72,9 @@ def _cheap_boxes(measured):
     figures = {case: measured.ratio(case, BOXED, OURS) for case in measured.times}
     yield "(d) hidden boxes"
     yield from _verdict("64 boxes of 300 by 60 pixels, at most 1.3 times the same job with none", figures, 1.3)
+
+
+def _cheap_reading(measured):
+    figures = {case: reading.ns / reading.opening_ns for case, reading in measured.readings.items()}
+    yield "(e) P5 files"
+    yield from _verdict("reading a file's header and pixels, under 0.1 of an opening of its page", figures, 0.1, digits=3)
