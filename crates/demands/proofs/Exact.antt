@@ -12,7 +12,7 @@ use Rattle.ticket.specs.declared.Ticket.{Ticket}
 use Rattle.tray.specs.Promises.{Placed}
 use Rattle.tray.specs.declared.Placement.{Placement}
 use Rattle.job.specs.Order.{lineOf}
-use Rattle.job.specs.Job.{finishedIn}
+use Rattle.job.specs.Job.{finishedWith}
 use Rattle.demands.specs.Near.{stepAt, Near}
 use Rattle.demands.specs.Exact.{Clear, Matters, ExactReach}
 use Rattle.demands.proofs.Near.{near-in}
@@ -50,12 +50,12 @@ module _ (t : Ticket) (p : Placement) (n c r : ℕ) (ok : Allowed t) (placed : P
   near-to : near .step ≤ from + reach
   near-to = omega (arith, near .fewer .back, near .fewer .on, w .sizes)
 
-  first : (white : ℕ) → finishedIn white t p one c r ≡ winner (not (w .low))
+  first : (white : ℕ) → finishedWith white t p one c r ≡ winner (not (w .low))
   first white =
       result t p c r ok clear white one w _ (run-on t p c r ok clear n placed (w .low) from reach)
       ∙ twice-run (w .low) (w .a) (w .b) here from room (omega arith) here-in
 
-  second : (white : ℕ) → finishedIn white t p two c r ≡ winner (w .low)
+  second : (white : ℕ) → finishedWith white t p two c r ≡ winner (w .low)
   second white =
       result t p c r ok clear white two w _ (changed-on t p c r ok clear n placed (w .low) from reach c′ r′ near)
       ∙ twice-changed (w .low) (w .a) (w .b) here from (near .step) room (omega arith) here-in (omega arith) near-to

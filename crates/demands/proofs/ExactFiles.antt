@@ -19,7 +19,7 @@ use Rattle.pgm.specs.ReadBack.{ReadsBack, read-back, header-back}
 use Rattle.pgm.specs.Reading.{judged}
 use Rattle.pgm.specs.Writing.{headerOf, fileOf}
 use Rattle.pgm.specs.declared.Header.{Header}
-use Rattle.job.specs.Job.{finishedIn}
+use Rattle.job.specs.Job.{finishedWith}
 use Rattle.file.specs.FileJob.{header, filePage}
 use Rattle.file.specs.Laws.{rows-end, length-headed, headed-behind}
 use Rattle.file.specs.Places.{placesOf, headed}
@@ -84,10 +84,10 @@ module _ (width height maximum : ℕ) where
     -- its page is finished as the tray's
     page-is :
         (t : Ticket) → Allowed t → (c r : ℕ)
-        → filePage t (headed front tray) c r ≡ finishedIn maximum t p tray c r
+        → filePage t (headed front tray) c r ≡ finishedWith maximum t p tray c r
     unfolding filePage AgreeNear pixelIn
     page-is t ok c r =
-        ap (λ (found : Header). finishedIn (found .maximum) t (sourcePage (placesOf found)) (headed front tray) c r)
+        ap (λ (found : Header). finishedWith (found .maximum) t (sourcePage (placesOf found)) (headed front tray) c r)
         header-is
         ∙ finished-same t p (headed front tray) tray c r
         (λ c′ r′ near shows. headed-behind front tray (byteOf p c′ r′) (page-behind c′ r′))

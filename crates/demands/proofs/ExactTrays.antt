@@ -27,7 +27,7 @@ use Rattle.filter.specs.Seen.{View, runsSteep}
 use Rattle.filter.specs.Filters.{valueAt, onLine, pass, eroded, dilationBack, dilated, opened, closed, operated}
 use Rattle.filter.specs.Filters.{orWhite}
 use Rattle.job.specs.Order.{lineOf, segmentOf}
-use Rattle.job.specs.Job.{finishedIn}
+use Rattle.job.specs.Job.{finishedWith}
 use Rattle.job.specs.Laws.{line-sound}
 use Rattle.demands.specs.Near.{majorPlace, minorPlace, stepAt, FewerSteps, Near}
 use Rattle.demands.specs.Exact.{OpensOrCloses, Clear, ClearSteps}
@@ -116,7 +116,7 @@ module _ (t : Ticket) (p : Placement) (c r : ℕ) (ok : Allowed t) (clear : Clea
   pub result :
       (white : ℕ) (tray : List ℕ) (w : Passes t) (f : ℕ → ℕ)
       → ((s : ℕ) → FewerSteps (t .length) (stepAt (lineOf t) c r) s → valueOn t p tray c r s ≡ some (f s))
-      → finishedIn white t p tray c r ≡ twice (w .low) (w .a) (w .b) f (stepAt (lineOf t) c r)
+      → finishedWith white t p tray c r ≡ twice (w .low) (w .a) (w .b) f (stepAt (lineOf t) c r)
   unfolding orWhite valueOn
   result white tray w f on =
       let l : Line = lineOf t in

@@ -16,7 +16,7 @@ use Rattle.tray.specs.Laws.{cleared-above, cleared-below, length-cleared}
 use Rattle.tray.specs.declared.Placement.{Placement}
 use Rattle.pgm.specs.Reading.{judged}
 use Rattle.pgm.specs.declared.Header.{Header}
-use Rattle.job.specs.Job.{finishedIn, jobWork, jobScratch, lengths}
+use Rattle.job.specs.Job.{finishedWith, jobWork, jobScratch, lengths}
 use Rattle.job.specs.Judging.{judgePlaces}
 use Rattle.job.specs.declared.Lengths.{Lengths}
 use Rattle.file.specs.FileJob.{header, filePage, fileAnswer, delivery, fileOutputAfter, fileScratchAfter}
@@ -163,7 +163,7 @@ file-reach ticket file file′ out out′ scratch scratch′ work bytes read sam
     let ok = files.file-allowed ticket file (lengths file out scratch) work bytes done in
     files.file-pixel ticket file out scratch work done c r c-in r-in
     ∙ finished-same (shown ticket) (sourceOf file) file file′ c r agree (header file .maximum) ok
-    ∙ ap (λ (h : Header). finishedIn (h .maximum) (shown ticket) (sourcePage (placesOf h)) file′ c r) (read .headers)
+    ∙ ap (λ (h : Header). finishedWith (h .maximum) (shown ticket) (sourcePage (placesOf h)) file′ c r) (read .headers)
     ∙ sym
     (files.file-pixel ticket file′ out′ scratch′ work second c r
     (subst (λ (h : Header). c < h .width) (read .headers) c-in)

@@ -14,7 +14,7 @@ use Rattle.tray.specs.declared.Placement.{Placement}
 use Rattle.filter.specs.Seen.{View, seen, turned, runsSteep}
 use Rattle.filter.specs.Filters.{operated, filtered, orWhite}
 use Rattle.job.specs.Order.{lineOf, segmentOf}
-use Rattle.job.specs.Job.{finishedIn}
+use Rattle.job.specs.Job.{finishedWith}
 use Rattle.job.specs.Laws.{finished-is}
 use Rattle.demands.specs.Near.{majorPlace, minorPlace}
 use Rattle.demands.proofs.Axes.{turned-is}
@@ -34,7 +34,7 @@ and-none false v = refl
 module _ (t : Ticket) (p : Placement) (tray : List ℕ) (c r : ℕ) where
   -- the finished page is the filter of that page, at the pixel's places on the axes
   pub finished-at :
-      (white : ℕ) → finishedIn white t p tray c r
+      (white : ℕ) → finishedWith white t p tray c r
       ≡ orWhite white
       (operated (t .operation) (segmentOf t) (alongIn t p tray) (majorPlace (lineOf t) c r) (minorPlace (lineOf t) c r))
   unfolding filtered segmentOf

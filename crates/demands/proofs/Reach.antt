@@ -22,7 +22,7 @@ use Rattle.tray.specs.declared.Placement.{Placement}
 use Rattle.filter.specs.Seen.{seen, runsSteep}
 use Rattle.filter.specs.Filters.{valueAt, onLine, orWhite}
 use Rattle.job.specs.Order.{lineOf, segmentOf, white}
-use Rattle.job.specs.Job.{finishedIn, lengths}
+use Rattle.job.specs.Job.{finishedWith, lengths}
 use Rattle.job.specs.Laws.{finished-allowed, line-sound, output-pixel}
 use Rattle.demands.specs.Near.{majorPlace, minorPlace, Near}
 use Rattle.demands.specs.Reach.{AgreeNear, AgreeOnPage, Reach, PageAlone, HiddenWhite}
@@ -106,7 +106,7 @@ module _ (t : Ticket) (p : Placement) (source source′ : List ℕ) (c r : ℕ)
   steps-same s h k = by-place s (landing l m (stepOf l M) s) refl h k
 
   -- the finished page has the same pixel
-  pub finished-same : (white : ℕ) → Allowed t → finishedIn white t p source c r ≡ finishedIn white t p source′ c r
+  pub finished-same : (white : ℕ) → Allowed t → finishedWith white t p source c r ≡ finishedWith white t p source′ c r
   unfolding segmentOf
   finished-same white ok =
       finished-at t p source c r white
@@ -119,7 +119,7 @@ module _ (t : Ticket) (p : Placement) (source source′ : List ℕ) (c r : ℕ)
 -- a hidden pixel
 pub finished-hidden :
     (white : ℕ) (t : Ticket) (p : Placement) (source : List ℕ) (c r : ℕ) → hidden (boxesOf t) c r ≡ true
-    → finishedIn white t p source c r ≡ white
+    → finishedWith white t p source c r ≡ white
 unfolding orWhite
 finished-hidden white t p source c r e =
     let l : Line = lineOf t in

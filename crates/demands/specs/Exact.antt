@@ -19,7 +19,7 @@ use Rattle.tray.specs.Promises.{Placed}
 use Rattle.tray.specs.declared.Placement.{Placement}
 use Rattle.tray.specs.declared.Placements.{Placements}
 use Rattle.job.specs.Order.{lineOf}
-use Rattle.job.specs.Job.{finishedIn, answer, outputAfter}
+use Rattle.job.specs.Job.{finishedWith, answer, outputAfter}
 use Rattle.job.specs.declared.Lengths.{Lengths}
 use Rattle.demands.specs.Near.{stepAt, onPage, FewerSteps, Near}
 
@@ -61,7 +61,7 @@ pub record Matters (t : Ticket) (p : Placement) (n c r c′ r′ : ℕ) : Type 0
   pub one-small : (i : ℕ) → getD one i 0 ≤ 1
   pub two-small : (i : ℕ) → getD two i 0 ≤ 1
   pub same-elsewhere : (i : ℕ) → i ≢ byteOf p c′ r′ → getD one i 0 ≡ getD two i 0
-  pub results-differ : (white : ℕ) → finishedIn white t p one c r ≢ finishedIn white t p two c r
+  pub results-differ : (white : ℕ) → finishedWith white t p one c r ≢ finishedWith white t p two c r
 
 -- THE REACH IS EXACT: for a ticket that was read and a page that fits its tray, each near pixel matters to a clear one.
 abbrev pub ExactReach : Type 0

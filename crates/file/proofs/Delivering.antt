@@ -17,7 +17,7 @@ use Rattle.tray.specs.declared.Placements.{Placements}
 use Rattle.pgm.specs.Writing.{headerOf}
 use Rattle.pgm.specs.declared.Header.{Header}
 use Rattle.job.specs.Finishing.{RanRead}
-use Rattle.job.specs.Job.{finishedIn, lengths}
+use Rattle.job.specs.Job.{finishedWith, lengths}
 use Rattle.job.specs.Judging.{judgePlaces}
 use Rattle.job.specs.Laws.{stands}
 use Rattle.file.specs.Delivering.{answerFor, Delivered}
@@ -35,7 +35,7 @@ module _ (t : Ticket) (h : Header) (file output scratch mid used : List ℕ) (gi
   answered-so = ran .answered
 
   abbrev page : List ℕ
-  page = written (outputPage (placesOf h)) (finishedIn (h .maximum) t (sourcePage (placesOf h)) file) output
+  page = written (outputPage (placesOf h)) (finishedWith (h .maximum) t (sourcePage (placesOf h)) file) output
 
   pub deliver-refused :
       (told : Delivery) → told ≡ record { answer = given; length = 0 } → isDone given ≡ false

@@ -14,7 +14,7 @@ use Rattle.tray.specs.Written.{written, cleared}
 use Rattle.pgm.specs.Reading.{judged, headerIn}
 use Rattle.pgm.specs.declared.Header.{Header}
 use Rattle.job.specs.Judging.{judgePlaces}
-use Rattle.job.specs.Job.{finishedIn, jobWork, jobScratch, lengths}
+use Rattle.job.specs.Job.{finishedWith, jobWork, jobScratch, lengths}
 use Rattle.job.specs.declared.Lengths.{Lengths}
 use Rattle.file.specs.Places.{headerFor, placesOf, fileLength, headed}
 use Rattle.file.specs.FileJob.{filePage}
@@ -33,7 +33,7 @@ pub record Delivered (t : Ticket) (h : Header) (file output scratch after used :
       after
       ≡ whenDone (given .answer)
       (headed (headerFor h)
-      (written (outputPage (placesOf h)) (finishedIn (h .maximum) t (sourcePage (placesOf h)) file) output))
+      (written (outputPage (placesOf h)) (finishedWith (h .maximum) t (sourcePage (placesOf h)) file) output))
       output
   pub used-is : used ≡ whenDone (given .answer) (cleared (jobScratch t (placesOf h)) scratch) scratch
 

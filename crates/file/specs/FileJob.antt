@@ -4,7 +4,6 @@
 -- Assumes nothing.
 use Prim.Native.Nat.{ℕ}
 use mathlib.Core.List.{List}
-use lib.ListN.{length}
 use Rattle.refusal.specs.Answer.{whenDone}
 use Rattle.refusal.specs.Chain.{_then_}
 use Rattle.refusal.specs.declared.Answer.{Answer}
@@ -17,7 +16,7 @@ use Rattle.tray.specs.Written.{written, cleared}
 use Rattle.pgm.specs.Reading as pgm
 use Rattle.pgm.specs.declared.Header.{Header}
 use Rattle.job.specs.Judging.{judgePlaces}
-use Rattle.job.specs.Job.{finishedIn, jobWork, jobScratch, lengths}
+use Rattle.job.specs.Job.{finishedWith, jobWork, jobScratch, lengths}
 use Rattle.job.specs.declared.Lengths.{Lengths}
 use Rattle.file.specs.Places.{headerFor, placesOf, fileLength, headed}
 use Rattle.file.specs.declared.Delivery.{Delivery}
@@ -28,7 +27,7 @@ header file = pgm.headerIn file
 
 -- the page that is given back, by column and row
 unfoldable pub filePage : Ticket → List ℕ → ℕ → ℕ → ℕ
-filePage t file c r = finishedIn (header file .maximum) t (sourcePage (placesOf (header file))) file c r
+filePage t file c r = finishedWith (header file .maximum) t (sourcePage (placesOf (header file))) file c r
 
 -- the ticket's own refusals, then 15 to 17, then 10 to 14
 unfoldable pub fileAnswer : List ℕ → List ℕ → Lengths → Answer

@@ -9,7 +9,7 @@ use native.Mathlib.Omega.{arith}
 use lib.ListN.{length, getD, take, drop, length-append, length-drop, take-append-drop}
 use lib.Seq.{getD-take, getD-drop, getD-append-add, length-take-le}
 use Rattle.refusal.specs.Answer.{isDone, whenDone}
-use Rattle.refusal.specs.Chain.{_then_, then-work, when-done}
+use Rattle.refusal.specs.Chain.{_then_, then-work, done-work, when-done}
 use Rattle.refusal.specs.declared.Answer.{Answer}
 use Rattle.refusal.specs.declared.Answer.the-variants.{Done}
 use Rattle.ticket.specs.Judging as tickets
@@ -27,7 +27,7 @@ use Rattle.pgm.specs.ReadBack.{ReadsBack, read-back, header-back}
 use Rattle.pgm.specs.Reading as pgm
 use Rattle.pgm.specs.Writing.{fileOf}
 use Rattle.pgm.specs.declared.Header.{Header}
-use Rattle.job.specs.Job.{finishedIn, jobWork, jobScratch, lengths}
+use Rattle.job.specs.Job.{finishedWith, jobWork, jobScratch, lengths}
 use Rattle.job.specs.Judging.{judgePlaces}
 use Rattle.job.specs.Laws.{Stands, stands}
 use Rattle.job.specs.Order.{recipeOf}
@@ -59,9 +59,6 @@ pub record FinishedFile (ticket file : List ℕ) (n : Lengths) (work : ℕ) : Ty
   pub file-read : isDone (pgm.judged file) ≡ true
   pub placed : isDone (judgePlaces (shown ticket) (placesOf (header file)) n) ≡ true
   pub worked : jobWork (shown ticket) (header file .width) (header file .height) ≡ work
-
-done-work : {a b : ℕ} → Done a ≡ Done b → a ≡ b
-done-work e = cc
 
 pub finished-file :
     (ticket file : List ℕ) (n : Lengths) (work : ℕ) → fileAnswer ticket file n ≡ Done work
@@ -217,7 +214,7 @@ module _ (ticket file out scratch : List ℕ) (work : ℕ)
       sides-product = ap (λ (w : ℕ). w * h .height) (sides-are .0) ∙ ap (λ (k : ℕ). widthIn file * k) (sides-are .1)
 
   pub file-within : (c r : ℕ) → filePage (shown ticket) file c r ≤ h .maximum
-  unfolding filePage finishedIn recipeOf sourcePage placesOf
+  unfolding filePage finishedWith recipeOf sourcePage placesOf
   file-within c r =
       page-within (h .maximum) (recipeOf (shown ticket) (h .maximum)) (h .width) (h .height) (pixelIn file from)
       (omega arith)

@@ -33,7 +33,7 @@ use Rattle.filter.specs.Promises.{Fits, Filtered}
 use Rattle.filter.specs.declared.Recipe.{Recipe}
 use Rattle.job.specs.Order.{recipeOf, white, pagesOf}
 use Rattle.job.specs.Judging.{judgeSides, judgePlaces}
-use Rattle.job.specs.Job.{finishedIn, finished, jobWork, jobScratch, answer, lengths, outputAfter, scratchAfter}
+use Rattle.job.specs.Job.{finishedWith, finished, jobWork, jobScratch, answer, lengths, outputAfter, scratchAfter}
 use Rattle.job.specs.Finishing.{Unrefused, Finished, RanRead}
 use Rattle.job.specs.Laws.{Stands, stands, pages-least, pages-most}
 use Rattle.job.specs.declared.Lengths.{Lengths}
@@ -140,7 +140,7 @@ module _ (t : Ticket) (white : ℕ) (p : Placements) (source output scratch afte
       Unrefused t p (length source) (length output) (length scratch)
       → Filtered (recipeOf t white) (sourcePage p) (outputPage p) source output scratch after mid work → used ≡ cleared (jobScratch t p) mid
       → Finished t white p source output scratch after used work
-  unfolding finishedIn jobWork recipeOf sourcePage jobScratch
+  unfolding finishedWith jobWork recipeOf sourcePage jobScratch
   finished-so free done clear =
       record {
         written-is = done .written-is;

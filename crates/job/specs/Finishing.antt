@@ -14,7 +14,7 @@ use Rattle.tray.specs.Placement.{sourcePage, outputPage}
 use Rattle.tray.specs.Written.{written, cleared}
 use Rattle.tray.specs.declared.Placements.{Placements}
 use Rattle.job.specs.Judging.{judgePlaces}
-use Rattle.job.specs.Job.{finishedIn, jobWork, jobScratch, lengths}
+use Rattle.job.specs.Job.{finishedWith, jobWork, jobScratch, lengths}
 
 -- the ticket was read, and none of refusals 10 to 14 is given
 pub record Unrefused (t : Ticket) (p : Placements) (source output scratch : ℕ) : Type 0 where
@@ -23,7 +23,7 @@ pub record Unrefused (t : Ticket) (p : Placements) (source output scratch : ℕ)
 
 -- what a finished job leaves
 pub record Finished (t : Ticket) (white : ℕ) (p : Placements) (source output scratch after used : List ℕ) (work : ℕ) : Type 0 where
-  pub written-is : after ≡ written (outputPage p) (finishedIn white t (sourcePage p) source) output
+  pub written-is : after ≡ written (outputPage p) (finishedWith white t (sourcePage p) source) output
   pub used-is : used ≡ cleared (jobScratch t p) scratch
   pub work-is : work ≡ jobWork t (p .width) (p .height)
 
@@ -31,5 +31,5 @@ pub record Finished (t : Ticket) (white : ℕ) (p : Placements) (source output s
 pub record RanRead (t : Ticket) (white : ℕ) (p : Placements) (source output scratch after used : List ℕ)
     (given : Answer) : Type 0 where
   pub answered : given ≡ (judgePlaces t p (lengths source output scratch) then Done (jobWork t (p .width) (p .height)))
-  pub written-is : after ≡ whenDone given (written (outputPage p) (finishedIn white t (sourcePage p) source) output) output
+  pub written-is : after ≡ whenDone given (written (outputPage p) (finishedWith white t (sourcePage p) source) output) output
   pub used-is : used ≡ whenDone given (cleared (jobScratch t p) scratch) scratch

@@ -22,12 +22,12 @@ use Rattle.job.specs.Judging.{judgePlaces}
 use Rattle.job.specs.declared.Lengths.{Lengths}
 
 -- the finished page, by column and row: what the filter makes of the page that stands in a tray, with this white
-unfoldable pub finishedIn : ℕ → Ticket → Placement → List ℕ → ℕ → ℕ → ℕ
-finishedIn white t p tray c r = filteredPage (recipeOf t white) (p .width) (p .height) (pixelIn tray p) c r
+unfoldable pub finishedWith : ℕ → Ticket → Placement → List ℕ → ℕ → ℕ → ℕ
+finishedWith white t p tray c r = filteredPage (recipeOf t white) (p .width) (p .height) (pixelIn tray p) c r
 
 -- a tray's own pages have 255
 abbrev pub finished : Ticket → Placement → List ℕ → ℕ → ℕ → ℕ
-finished t p tray c r = finishedIn white t p tray c r
+finished t p tray c r = finishedWith white t p tray c r
 
 -- the comparisons on a page w by h
 unfoldable pub jobWork : Ticket → ℕ → ℕ → ℕ

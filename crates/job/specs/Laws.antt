@@ -11,7 +11,7 @@ use lib.ListN.{length, getD}
 use Rattle.geometry.specs.Drift.{Sound}
 use Rattle.geometry.specs.Laws.{sound}
 use Rattle.refusal.specs.Answer.{isDone}
-use Rattle.refusal.specs.Chain.{unless, _then_, then-done, then-work, unless-done, when-done}
+use Rattle.refusal.specs.Chain.{unless, _then_, then-done, then-work, done-work, unless-done, when-done}
 use Rattle.refusal.specs.declared.Answer.{Answer}
 use Rattle.refusal.specs.declared.Answer.the-variants.{Done}
 use Rattle.refusal.specs.declared.Refusal.the-variants.{BadSides, SourceTooShort, OutputTooShort, ScratchTooShort, BadBox}
@@ -31,7 +31,7 @@ use Rattle.filter.specs.Seen.{seen}
 use Rattle.filter.specs.Filters.{filtered, orWhite, recipeBoxes, filteredPage}
 use Rattle.job.specs.Order.{lineOf, segmentOf, recipeOf, pagesOf}
 use Rattle.job.specs.Judging.{judgeSides, judgeSource, judgeOutput, judgeScratch, judgePageBoxesFrom, judgePageBoxes, judgePlaces}
-use Rattle.job.specs.Job.{finishedIn, finished, jobWork, jobScratch, answer, lengths, outputAfter}
+use Rattle.job.specs.Job.{finishedWith, finished, jobWork, jobScratch, answer, lengths, outputAfter}
 use Rattle.job.specs.declared.Lengths.{Lengths}
 
 -- ---- the pages in the scratch
@@ -97,9 +97,6 @@ pub record FinishedJob (ticket : List ℕ) (p : Placements) (n : Lengths) (work 
   pub placed : isDone (judgePlaces (shown ticket) p n) ≡ true
   pub worked : jobWork (shown ticket) (p .width) (p .height) ≡ work
 
-done-work : {a b : ℕ} → Done a ≡ Done b → a ≡ b
-done-work e = cc
-
 pub finished-job : (ticket : List ℕ) (p : Placements) (n : Lengths) (work : ℕ) → answer ticket p n ≡ Done work → FinishedJob ticket p n work
 unfolding answer
 finished-job ticket p n work e =
@@ -127,10 +124,10 @@ line-sound t ok = sound (lineOf t) (ok .runs)
 -- the finished page is the filter of the ticket's segment, with white where a pixel is absent
 pub finished-is :
     (white : ℕ) (t : Ticket) (p : Placement) (tray : List ℕ) (c r : ℕ)
-    → finishedIn white t p tray c r
+    → finishedWith white t p tray c r
     ≡ orWhite white
     (filtered (t .operation) (segmentOf t) (seen (boxesOf t) (p .width) (p .height) (pixelIn tray p)) c r)
-unfolding finishedIn filteredPage recipeBoxes recipeOf boxesOf
+unfolding finishedWith filteredPage recipeBoxes recipeOf boxesOf
 finished-is white t p tray c r = refl
 
 -- a finished job's output tray has the finished page's pixels

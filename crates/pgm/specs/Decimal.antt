@@ -94,10 +94,3 @@ pub length-header : (w h m : ℕ)
     → length (headerOf w h m) ≡ length (decimal w) + length (decimal h) + length (decimal m) + 6
 unfolding headerOf line
 length-header w h m = simp length-append (omega arith)
-
--- 64 bytes are room enough
-pub header-most : (w h m : ℕ) → w ≤ 18446744073709551615 → h ≤ 18446744073709551615 → m ≤ 255
-    → length (headerOf w h m) ≤ 64
-unfolding tens
-header-most w h m w-to h-to m-to =
-    omega (arith, length-header w h m, most-digits w w-to, most-digits h h-to, below-tens 2 m (omega arith))

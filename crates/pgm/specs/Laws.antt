@@ -11,7 +11,7 @@ use lib.ListN.{length, getD, take, drop, length-take, length-drop}
 use lib.Seq.{getD-take, getD-drop}
 use lib.Dec.{leb}
 use Rattle.refusal.specs.Answer.{isDone}
-use Rattle.refusal.specs.Chain.{unless, then-done, unless-done, when-done, when-refused}
+use Rattle.refusal.specs.Chain.{unless, then-done, unless-done, when-done}
 use Rattle.refusal.specs.declared.Later.the-variants.{BadHeader, BadPixel}
 use Rattle.refusal.specs.declared.Refusal.the-variants.{Later}
 use Rattle.pgm.specs.Bytes.{Byte, isSpace, isDigit, isHash, isLineEnd, uncommented, bytesFrom, firstPlace}
@@ -19,7 +19,8 @@ use Rattle.pgm.specs.Bytes.{startsWith, behind}
 use Rattle.pgm.specs.Header.{digits, behindNumber, judgeNumber, fromWidth, fromHeight, fromMaximum}
 use Rattle.pgm.specs.Header.{fromDelimiter, widthIn, heightIn, maximumIn, maximumPlace, pixelsStart}
 use Rattle.pgm.specs.Header.{judgeMagic, judgeFromMaximum, judgeHeader, judgeMaximum}
-use Rattle.pgm.specs.Reading.{soundPixels, imagePixels, judgePixels, judged, told, headerIn, noHeader, shownAt, reading}
+use Rattle.pgm.specs.Reading.{soundPixels, imagePixels, judgePixels, judged}
+use Rattle.pgm.specs.Reading.{told, headerIn, noHeader, shownAt, reading}
 
 -- ---- the bytes of a header stand in the file
 
@@ -146,10 +147,6 @@ read-good file good =
           rw (getD-take n (drop (pixelsStart file) file) i 0 h, getD-drop (pixelsStart file) file i 0) at sound;
       header = when-done (judged file) (headerIn file) noHeader good;
     }
-
-pub read-refused : (file : List ℕ) → isDone (judged file) ≡ false → reading file .header ≡ noHeader
-unfolding reading shownAt
-read-refused file refused = when-refused (judged file) (headerIn file) noHeader refused
 
 -- a side that is told within its limits is the side
 pub told-small : (n m : ℕ) → m < 18446744073709551615 → told n ≤ m → told n ≡ n

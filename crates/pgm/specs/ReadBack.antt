@@ -1,7 +1,6 @@
 -- What is written reads back. Document 02, wish 1: "Each header field we write ends in one newline; read back, a page
 -- is the same."
 -- Assumes nothing.
-pub use Rattle.pgm.specs.Decimal.{header-most}
 use mathlib.Core.Path.{_≡_, refl, sym, ap, _∙_}
 use mathlib.Core.Bool.{true, false}
 use mathlib.Core.List.{List, [], _∷_, _++_, append-assoc}
@@ -21,7 +20,8 @@ use Rattle.pgm.specs.Header.{digits, numberIn, behindNumber, fromWidth, 
 use Rattle.pgm.specs.Header.{widthIn, heightIn, maximumIn, pixelsStart}
 use Rattle.pgm.specs.Header.{judgeNumber, judgeMagic, judgeFromMaximum, judgeHeader, judgeMaximum}
 use Rattle.pgm.specs.Laws.{told-same}
-use Rattle.pgm.specs.Reading.{soundPixels, imagePixels, judgePixels, judged, largest, told, headerIn, shownAt, reading}
+use Rattle.pgm.specs.Reading.{soundPixels, imagePixels, judgePixels, judged}
+use Rattle.pgm.specs.Reading.{largest, told, headerIn, shownAt, reading}
 use Rattle.pgm.specs.Writing.{decimal, line, headerOf, fileOf}
 
 -- ---- the digits of a number

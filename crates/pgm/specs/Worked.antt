@@ -16,7 +16,8 @@ use Rattle.pgm.specs.Bytes.{behind, numeral}
 use Rattle.pgm.specs.Header.{digits, numberIn, behindNumber, judgeNumber, fromWidth, fromHeight, fromMaximum}
 use Rattle.pgm.specs.Header.{fromDelimiter, widthIn, heightIn, maximumIn, maximumPlace, pixelsStart}
 use Rattle.pgm.specs.Header.{judgeMagic, judgeFromMaximum, judgeHeader, judgeMaximum}
-use Rattle.pgm.specs.Reading.{soundPixels, imagePixels, judgePixels, judged, told, headerIn, noHeader, shownAt, reading}
+use Rattle.pgm.specs.Reading.{soundPixels, imagePixels, judgePixels, judged}
+use Rattle.pgm.specs.Reading.{told, headerIn, noHeader, shownAt, reading}
 use Rattle.pgm.specs.Writing.{decimalIn, decimal, line, headerOf, fileOf}
 
 -- the bytes of a text
@@ -83,7 +84,8 @@ cases =
 worked : map (λ (c : Case). judged (text (c .file))) cases ≡ map (λ (c : Case). c .answer) cases
 unfolding isSpace isDigit isHash isLineEnd uncommented bytesFrom firstPlace startsWith behind numeral digits numberIn
     behindNumber judgeNumber fromWidth fromHeight fromMaximum fromDelimiter widthIn heightIn maximumIn maximumPlace
-    pixelsStart judgeMagic judgeFromMaximum judgeHeader judgeMaximum soundPixels imagePixels judgePixels judged unless _then_
+    pixelsStart judgeMagic judgeFromMaximum judgeHeader judgeMaximum
+    soundPixels imagePixels judgePixels judged unless _then_
 worked = refl
 
 -- an image of 2 by 1, maximum 9
@@ -92,6 +94,7 @@ one-row :
     ≡ record { answer = Done 0; header = record { width = 2; height = 1; maximum = 9; start = 9 } }
 unfolding isSpace isDigit isHash isLineEnd uncommented bytesFrom firstPlace startsWith behind numeral digits numberIn
     behindNumber judgeNumber fromWidth fromHeight fromMaximum fromDelimiter widthIn heightIn maximumIn maximumPlace
-    pixelsStart judgeMagic judgeFromMaximum judgeHeader judgeMaximum soundPixels imagePixels judgePixels judged unless _then_
+    pixelsStart judgeMagic judgeFromMaximum judgeHeader judgeMaximum
+    soundPixels imagePixels judgePixels judged unless _then_
     told headerIn noHeader shownAt reading decimalIn decimal line headerOf fileOf whenDone
 one-row = refl

@@ -43,6 +43,10 @@ unfolding _then_ isDone
 then-work (Done w) b work h = (refl, h)
 then-work (Refused refusal at) b work h = (cc, cc)
 
+-- what is done is done with one work
+pub done-work : {a b : ℕ} → Done a ≡ Done b → a ≡ b
+done-work e = cc
+
 pub unless-done : (test : Bool) (refusal : Refusal) (at : ℕ) → isDone (unless test refusal at) ≡ true → test ≡ true
 unfolding unless isDone
 unless-done true refusal at h = refl

@@ -45,7 +45,7 @@ use Rattle.filter.specs.Work.{charged, chargedAt, passWork, erosionWork, dilati
 use Rattle.job.specs.Order.{lineOf, segmentOf, recipeOf, pagesOf}
 use Rattle.job.specs.Judging.{judgeSides, judgeSource, judgeOutput, judgeScratch, judgePageBoxesFrom, judgePageBoxes}
 use Rattle.job.specs.Judging.{judgePlaces}
-use Rattle.job.specs.Job.{finishedIn, finished, jobWork, jobScratch, answer, lengths, outputAfter, scratchAfter}
+use Rattle.job.specs.Job.{finishedWith, finished, jobWork, jobScratch, answer, lengths, outputAfter, scratchAfter}
 
 -- ---- tickets
 
@@ -434,7 +434,7 @@ unfolding first firstℤ readFirst
     charged chargedAt passWork erosionWork dilationWork workOf
     lineOf segmentOf recipeOf pagesOf
     judgeSides judgeSource judgeOutput judgeScratch judgePageBoxesFrom judgePageBoxes judgePlaces
-    finishedIn jobWork jobScratch answer outputAfter scratchAfter
+    finishedWith jobWork jobScratch answer outputAfter scratchAfter
 computed = refl
 
 -- ---- the statement

@@ -39,7 +39,7 @@ use Rattle.filter.specs.Work.{charged, chargedAt, passWork, erosionWork, dilati
 use Rattle.job.specs.Order.{lineOf, segmentOf, recipeOf, pagesOf}
 use Rattle.job.specs.Judging.{judgeSides, judgeSource, judgeOutput, judgeScratch, judgePageBoxesFrom, judgePageBoxes}
 use Rattle.job.specs.Judging.{judgePlaces}
-use Rattle.job.specs.Job.{finishedIn, jobWork, jobScratch, lengths}
+use Rattle.job.specs.Job.{finishedWith, jobWork, jobScratch, lengths}
 use Rattle.pgm.specs.Bytes.{isSpace, isDigit, isHash, isLineEnd, uncommented, bytesFrom, firstPlace, startsWith}
 use Rattle.pgm.specs.Bytes.{behind, numeral}
 use Rattle.pgm.specs.Header.{digits, numberIn, behindNumber, judgeNumber, fromWidth, fromHeight, fromMaximum}
@@ -120,7 +120,7 @@ unfolding shallow steep majorOf minorOf
     charged chargedAt passWork erosionWork dilationWork workOf
     lineOf segmentOf recipeOf pagesOf
     judgeSides judgeSource judgeOutput judgeScratch judgePageBoxesFrom judgePageBoxes judgePlaces
-    finishedIn jobWork jobScratch
+    finishedWith jobWork jobScratch
     isSpace isDigit isHash isLineEnd uncommented bytesFrom firstPlace startsWith behind numeral
     digits numberIn behindNumber judgeNumber fromWidth fromHeight fromMaximum fromDelimiter
     widthIn heightIn maximumIn maximumPlace pixelsStart judgeMagic judgeFromMaximum judgeHeader judgeMaximum
