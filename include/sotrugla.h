@@ -18,7 +18,8 @@
 #include <stddef.h>
 #include <stdint.h>
 
-#define SOTRUGLA_VERSION "0.2.0"
+#define SOTRUGLA_VERSION "0.3.0"
+#define SOTRUGLA_VERSION_NUMBER 3000 /* 1000000 * major + 1000 * minor + patch */
 
 #if SIZE_MAX != UINT64_MAX
 #error "Sotrugla is for machines whose sizes are 64-bit numbers"
@@ -27,6 +28,9 @@
 #ifdef __cplusplus
 extern "C" {
 #endif
+
+/* The version of the library that runs, as SOTRUGLA_VERSION_NUMBER is that of this header. */
+uint64_t sotrugla_version(void);
 
 /* An answer. refusal is 0 for a finished page, else the refusal's number, and place says where: the
  * ticket's byte where the field at fault starts (refusals 1 to 9), the number of the box from 0 (14), the

@@ -10,6 +10,7 @@ ghost use Rattle.job.specs.Job.{lengths, answer, outputAfter, scratchAfter};
 ghost use Rattle.sotrugla.specs.Shown.{readOutcome, numbersAfter};
 ghost use Rattle.sotrugla.specs.Outcome.{placementsOf, outcomeOf, scratchFor};
 ghost use Rattle.sotrugla.specs.Hiding.{hiddenBy};
+ghost use Rattle.sotrugla.specs.Version.{version};
 use refusal::Answer;
 use refusal::report;
 use tray::Placements;
@@ -149,4 +150,15 @@ pub extern "C" fn sotrugla_is_hidden(ticket: &[u8], column: usize, row: usize) -
     let reading = ticket::read(ticket);
     let hidden = boxes::hides(reading.ticket, column, row);
     if hidden { 1 } else { 0 }
+}
+
+// 0.3.0: a million for the major number, a thousand for the minor one, one for the patch.
+const VERSION: u64 = 3000;
+
+// The version of the library that runs, which need not be that of the header that a host was built with.
+#[no_mangle]
+pub extern "C" fn sotrugla_version() -> u64
+    ensures { λ r. ⌜ r ≡ version ⌝ }
+{
+    VERSION
 }

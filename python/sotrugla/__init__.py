@@ -327,7 +327,7 @@ def _size(number):
 def _load():
     here = os.path.dirname(os.path.abspath(__file__))
     named = os.environ.get("SOTRUGLA_LIBRARY")
-    beside = [os.path.join(here, "libsotrugla.so"), os.path.join(here, "../target/dist/libsotrugla.so")]
+    beside = [os.path.join(here, "libsotrugla.so"), os.path.join(here, "../../target/dist/libsotrugla.so")]
     found = named or next(filter(os.path.exists, beside), "libsotrugla.so")
     library = ctypes.CDLL(found)
     buffer = [ctypes.c_void_p, ctypes.c_size_t]
