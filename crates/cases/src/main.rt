@@ -8,9 +8,9 @@ mod form;
 mod text;
 
 use form::ticket;
+use placement::Placements;
+use placement::Spot;
 use refusal::report;
-use tray::Placements;
-use tray::Spot;
 ghost use Prim.Native.Nat.{_≤_};
 
 // Operations by their numbers in a ticket.

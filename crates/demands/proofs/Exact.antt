@@ -9,8 +9,8 @@ use native.Mathlib.Omega.{arith}
 use Rattle.geometry.specs.declared.Line.{Line}
 use Rattle.ticket.specs.Laws.{Allowed}
 use Rattle.ticket.specs.declared.Ticket.{Ticket}
-use Rattle.tray.specs.Promises.{Placed}
-use Rattle.tray.specs.declared.Placement.{Placement}
+use Rattle.placement.specs.Placement.{Placed}
+use Rattle.placement.specs.declared.Placement.{Placement}
 use Rattle.job.specs.Order.{lineOf}
 use Rattle.job.specs.Job.{finishedWith}
 use Rattle.demands.specs.Near.{stepAt, Near}

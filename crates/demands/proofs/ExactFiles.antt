@@ -11,10 +11,9 @@ use lib.Seq.{getD-drop}
 use Rattle.refusal.specs.Answer.{isDone}
 use Rattle.ticket.specs.Laws.{Allowed}
 use Rattle.ticket.specs.declared.Ticket.{Ticket}
-use Rattle.tray.specs.Laws.{byte-from}
-use Rattle.tray.specs.Placement.{byteOf, pixelIn, longestSide, sourcePage}
-use Rattle.tray.specs.Promises.{Placed}
-use Rattle.tray.specs.declared.Placement.{Placement}
+use Rattle.placement.specs.Placement.{byteOf, pixelIn, longestSide, Placed, sourcePage}
+use Rattle.placement.specs.Laws.{byte-from}
+use Rattle.placement.specs.declared.Placement.{Placement}
 use Rattle.pgm.specs.ReadBack.{ReadsBack, read-back, header-back}
 use Rattle.pgm.specs.Reading.{judged}
 use Rattle.pgm.specs.Writing.{headerOf, fileOf}

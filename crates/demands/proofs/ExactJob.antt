@@ -7,8 +7,8 @@ use Prim.Native.Nat.{ℕ, _<_}
 use lib.ListN.{length}
 use Rattle.refusal.specs.declared.Answer.the-variants.{Done}
 use Rattle.ticket.specs.Reading.{shown}
-use Rattle.tray.specs.Placement.{pixelIn, sourcePage, outputPage}
-use Rattle.tray.specs.declared.Placements.{Placements}
+use Rattle.placement.specs.Placement.{pixelIn, sourcePage, outputPage}
+use Rattle.placement.specs.declared.Placements.{Placements}
 use Rattle.job.specs.Order.{white}
 use Rattle.job.specs.Job.{finished, answer, lengths, outputAfter}
 use Rattle.job.specs.Laws.{finished-stands, finished-allowed, output-pixel}

@@ -16,13 +16,13 @@ use Rattle.geometry.specs.Laws.{in-page-landing}
 use Rattle.geometry.specs.declared.Line.{Line}
 use Rattle.ticket.specs.Laws.{Allowed}
 use Rattle.ticket.specs.declared.Ticket.{Ticket}
-use Rattle.tray.specs.Placement.{byteOf, pixelIn}
-use Rattle.tray.specs.Promises.{Placed}
+use Rattle.placement.specs.Placement.{byteOf, pixelIn, columnOf, rowOf, Placed}
+use Rattle.placement.specs.Placement as placement
+use Rattle.placement.specs.Laws.{byte-below, byte-same}
+use Rattle.placement.specs.declared.Placement.{Placement}
 use Rattle.tray.specs.Turned.{downOf, acrossOf}
-use Rattle.tray.specs.Written.{columnOf, rowOf, written}
-use Rattle.tray.specs.Written as tray
-use Rattle.tray.specs.Laws.{byte-below, byte-same, length-written, written-at, written-pixel}
-use Rattle.tray.specs.declared.Placement.{Placement}
+use Rattle.tray.specs.Written.{written}
+use Rattle.tray.specs.Laws.{length-written, written-at, written-pixel}
 use Rattle.filter.specs.Seen.{View, runsSteep}
 use Rattle.filter.specs.Filters.{valueAt, onLine, pass, eroded, dilationBack, dilated, opened, closed, operated}
 use Rattle.filter.specs.Filters.{orWhite}
@@ -151,7 +151,7 @@ module _ (p : Placement) (n : ℕ) (placed : Placed p n) where
       (λ h.
       let here : i < length {A = ℕ} (replicate n 0) = rw length-replicate h in
       rw (written-at p page (replicate n 0) i here)
-      (picked-small (tray.inside p i) (page (columnOf p i) (rowOf p i)) (getD (replicate n 0) i 0)
+      (picked-small (placement.inside p i) (page (columnOf p i) (rowOf p i)) (getD (replicate n 0) i 0)
       (small (columnOf p i) (rowOf p i))
       (omega (arith, getD-replicate {A = ℕ} n i 0 0 h))))
       (λ h.

@@ -26,9 +26,9 @@ use Rattle.ticket.specs.Judging as ticket
 use Rattle.ticket.specs.Laws.{Bytes}
 use Rattle.ticket.specs.Reading.{boxPlaces, shown}
 use Rattle.boxes.specs.Boxes.{hidden, boxesOf, boxAllowed}
-use Rattle.tray.specs.Placement.{sideAllowed, allowed, fits, sourcePage, outputPage, scratchNeeded}
+use Rattle.placement.specs.Placement.{sideAllowed, allowed, fits, sourcePage, outputPage, scratchNeeded}
+use Rattle.placement.specs.declared.Placements.{Placements}
 use Rattle.tray.specs.Turned.{downOf, acrossOf}
-use Rattle.tray.specs.declared.Placements.{Placements}
 use Rattle.filter.specs.Seen.{runsSteep}
 use Rattle.filter.specs.Filters.{dilationBack}
 use Rattle.filter.specs.Work.{charged, chargedAt, passWork, erosionWork, dilationWork, workOf}

@@ -11,9 +11,9 @@ use Rattle.refusal.specs.declared.Answer.{Answer}
 use Rattle.refusal.specs.declared.Answer.the-variants.{Done}
 use Rattle.ticket.specs.Judging as tickets
 use Rattle.ticket.specs.Reading.{shown}
-use Rattle.tray.specs.Placement.{pixelIn, sourcePage}
+use Rattle.placement.specs.Placement.{pixelIn, sourcePage}
+use Rattle.placement.specs.declared.Placement.{Placement}
 use Rattle.tray.specs.Laws.{cleared-above, cleared-below, length-cleared}
-use Rattle.tray.specs.declared.Placement.{Placement}
 use Rattle.pgm.specs.Reading.{judged}
 use Rattle.pgm.specs.declared.Header.{Header}
 use Rattle.job.specs.Job.{finishedWith, jobWork, jobScratch, lengths}

@@ -9,8 +9,8 @@ use borrow.Author.Tests.{lt-ltb}
 use lib.Dec.{ltb}
 use Rattle.ticket.specs.declared.Ticket.{Ticket}
 use Rattle.boxes.specs.Boxes.{hidden, boxesOf}
-use Rattle.tray.specs.Placement.{pixelIn}
-use Rattle.tray.specs.declared.Placement.{Placement}
+use Rattle.placement.specs.Placement.{pixelIn}
+use Rattle.placement.specs.declared.Placement.{Placement}
 use Rattle.filter.specs.Seen.{View, seen, turned, runsSteep}
 use Rattle.filter.specs.Filters.{operated, filtered, orWhite}
 use Rattle.job.specs.Order.{lineOf, segmentOf}

@@ -15,10 +15,10 @@ use Rattle.ticket.specs.Laws.{Allowed}
 use Rattle.ticket.specs.Reading.{shown}
 use Rattle.ticket.specs.declared.Ticket.{Ticket}
 use Rattle.boxes.specs.Boxes.{hidden, boxesOf}
-use Rattle.tray.specs.Placement.{pixelIn, sourcePage}
+use Rattle.placement.specs.Placement.{pixelIn, sourcePage}
+use Rattle.placement.specs.declared.Placement.{Placement}
 use Rattle.tray.specs.Turned.{downOf, acrossOf}
 use Rattle.tray.specs.Laws.{down-in, across-in}
-use Rattle.tray.specs.declared.Placement.{Placement}
 use Rattle.filter.specs.Seen.{seen, runsSteep}
 use Rattle.filter.specs.Filters.{valueAt, onLine, orWhite}
 use Rattle.job.specs.Order.{lineOf, segmentOf, white}

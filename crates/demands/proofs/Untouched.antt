@@ -11,10 +11,11 @@ use Rattle.refusal.specs.Chain.{when-done, when-refused}
 use Rattle.refusal.specs.declared.Answer.{Answer}
 use Rattle.refusal.specs.declared.Answer.the-variants.{Done, Refused}
 use Rattle.ticket.specs.Reading.{shown}
-use Rattle.tray.specs.Placement.{sourcePage, outputPage}
-use Rattle.tray.specs.Written.{inside, cleared}
-use Rattle.tray.specs.Laws.{inside-pixel, written-outside, length-written, cleared-above, cleared-below, length-cleared}
-use Rattle.tray.specs.declared.Placement.{Placement}
+use Rattle.placement.specs.Placement.{inside, sourcePage, outputPage}
+use Rattle.placement.specs.Laws.{inside-pixel}
+use Rattle.placement.specs.declared.Placement.{Placement}
+use Rattle.tray.specs.Written.{cleared}
+use Rattle.tray.specs.Laws.{written-outside, length-written, cleared-above, cleared-below, length-cleared}
 use Rattle.job.specs.Job.{finished, jobScratch, answer, lengths, outputAfter, scratchAfter}
 use Rattle.job.specs.Laws.{finished-stands}
 use Rattle.demands.specs.Untouched.{OffPage, OutputKept, OutputLength, ScratchKept, ScratchLength, ScratchZero}

@@ -14,10 +14,9 @@ use Rattle.ticket.specs.Laws.{Allowed, Bytes}
 use Rattle.ticket.specs.Reading.{shown}
 use Rattle.ticket.specs.declared.Ticket.{Ticket}
 use Rattle.boxes.specs.Boxes.{hidden, boxesOf}
-use Rattle.tray.specs.Placement.{byteOf, pixelIn, sourcePage, outputPage}
-use Rattle.tray.specs.Promises.{Placed}
-use Rattle.tray.specs.declared.Placement.{Placement}
-use Rattle.tray.specs.declared.Placements.{Placements}
+use Rattle.placement.specs.Placement.{byteOf, pixelIn, Placed, sourcePage, outputPage}
+use Rattle.placement.specs.declared.Placement.{Placement}
+use Rattle.placement.specs.declared.Placements.{Placements}
 use Rattle.job.specs.Order.{lineOf}
 use Rattle.job.specs.Job.{finishedWith, answer, outputAfter}
 use Rattle.job.specs.declared.Lengths.{Lengths}

@@ -13,8 +13,8 @@ use Rattle.ticket.specs.Laws.{Allowed, Bytes}
 use Rattle.ticket.specs.Reading.{shown}
 use Rattle.ticket.specs.declared.Ticket.{Ticket}
 use Rattle.boxes.specs.Boxes.{hidden, boxesOf}
-use Rattle.tray.specs.Placement.{byteOf, pixelIn, longestSide, sourcePage, outputPage}
-use Rattle.tray.specs.declared.Placement.{Placement}
+use Rattle.placement.specs.Placement.{byteOf, pixelIn, longestSide, sourcePage, outputPage}
+use Rattle.placement.specs.declared.Placement.{Placement}
 use Rattle.pgm.specs.Reading.{judged, reading}
 use Rattle.pgm.specs.Writing.{headerOf}
 use Rattle.pgm.specs.declared.Header.{Header}

@@ -14,8 +14,8 @@ use Rattle.geometry.specs.Number.{inPage}
 use Rattle.geometry.specs.declared.Line.{Line}
 use Rattle.ticket.specs.Laws.{Allowed}
 use Rattle.ticket.specs.declared.Ticket.{Ticket}
+use Rattle.placement.specs.declared.Placement.{Placement}
 use Rattle.tray.specs.Turned.{downOf, acrossOf}
-use Rattle.tray.specs.declared.Placement.{Placement}
 use Rattle.filter.specs.Seen.{runsSteep}
 use Rattle.job.specs.Order.{lineOf}
 

@@ -12,9 +12,9 @@ use Rattle.ticket.specs.Laws.{Bytes}
 use Rattle.ticket.specs.Reading.{shown}
 use Rattle.ticket.specs.declared.Ticket.{Ticket}
 use Rattle.boxes.specs.Boxes.{hidden, boxesOf}
-use Rattle.tray.specs.Placement.{pixelIn, sourcePage, outputPage}
-use Rattle.tray.specs.declared.Placement.{Placement}
-use Rattle.tray.specs.declared.Placements.{Placements}
+use Rattle.placement.specs.Placement.{pixelIn, sourcePage, outputPage}
+use Rattle.placement.specs.declared.Placement.{Placement}
+use Rattle.placement.specs.declared.Placements.{Placements}
 use Rattle.job.specs.Job.{answer, lengths, outputAfter}
 use Rattle.demands.specs.Same.{SameLengths}
 use Rattle.demands.specs.Near.{Near}

@@ -6,7 +6,7 @@ use mathlib.Core.List.{List}
 use Prim.Native.Nat.{ℕ}
 use lib.ListN.{length}
 use Rattle.refusal.specs.Answer.{numberOf, placeOf, workIn}
-use Rattle.tray.specs.declared.Placements.{Placements}
+use Rattle.placement.specs.declared.Placements.{Placements}
 use Rattle.job.specs.Job.{answer, lengths}
 
 -- the trays of two jobs have the same three lengths

@@ -9,9 +9,9 @@ use lib.ListN.{length, getD}
 use Rattle.refusal.specs.Answer.{numberOf, workIn}
 use Rattle.refusal.specs.declared.Answer.the-variants.{Done}
 use Rattle.ticket.specs.Reading.{shown}
-use Rattle.tray.specs.Placement.{byteOf, outputPage}
-use Rattle.tray.specs.declared.Placement.{Placement}
-use Rattle.tray.specs.declared.Placements.{Placements}
+use Rattle.placement.specs.Placement.{byteOf, outputPage}
+use Rattle.placement.specs.declared.Placement.{Placement}
+use Rattle.placement.specs.declared.Placements.{Placements}
 use Rattle.job.specs.Job.{jobScratch, answer, lengths, outputAfter, scratchAfter}
 
 -- byte i of a tray is the byte of no pixel of the page

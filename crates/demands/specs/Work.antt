@@ -8,7 +8,7 @@ use Rattle.geometry.specs.declared.Line.{Line}
 use Rattle.refusal.specs.declared.Answer.the-variants.{Done}
 use Rattle.ticket.specs.Reading.{shown}
 use Rattle.ticket.specs.declared.Ticket.{Ticket}
-use Rattle.tray.specs.declared.Placements.{Placements}
+use Rattle.placement.specs.declared.Placements.{Placements}
 use Rattle.filter.specs.Work.{passWork}
 use Rattle.job.specs.Job.{jobWork, answer}
 use Rattle.job.specs.declared.Lengths.{Lengths}

@@ -6,7 +6,7 @@ use Prim.Native.Nat.{ℕ}
 use Rattle.refusal.specs.Answer.{isDone}
 use Rattle.refusal.specs.Chain.{then-on, then-stop, when-done}
 use Rattle.refusal.specs.declared.Answer.{Answer}
-use Rattle.tray.specs.declared.Placements.{Placements}
+use Rattle.placement.specs.declared.Placements.{Placements}
 use Rattle.pgm.specs.Reading.{judged, headerIn, noHeader, shownAt, reading}
 use Rattle.pgm.specs.declared.Reading.{Reading}
 use Rattle.job.specs.Judging.{judgeSides}

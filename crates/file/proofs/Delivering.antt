@@ -9,11 +9,10 @@ use Rattle.refusal.specs.Answer.{isDone}
 use Rattle.refusal.specs.Chain.{then-done, when-done, when-refused}
 use Rattle.refusal.specs.declared.Answer.{Answer}
 use Rattle.ticket.specs.declared.Ticket.{Ticket}
-use Rattle.tray.specs.Placement.{sourcePage, outputPage}
+use Rattle.placement.specs.Placement.{Placed, sourcePage, outputPage}
+use Rattle.placement.specs.declared.Placements.{Placements}
 use Rattle.tray.specs.Laws.{length-written}
-use Rattle.tray.specs.Promises.{Placed}
 use Rattle.tray.specs.Written.{written}
-use Rattle.tray.specs.declared.Placements.{Placements}
 use Rattle.pgm.specs.Writing.{headerOf}
 use Rattle.pgm.specs.declared.Header.{Header}
 use Rattle.job.specs.Finishing.{RanRead}

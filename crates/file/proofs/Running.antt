@@ -11,7 +11,7 @@ use Rattle.ticket.specs.Laws.{reading-good}
 use Rattle.ticket.specs.Reading.{shown, reading}
 use Rattle.ticket.specs.declared.Reading as tickets
 use Rattle.ticket.specs.declared.Ticket.{Ticket}
-use Rattle.tray.specs.Placement.{outputPage}
+use Rattle.placement.specs.Placement.{outputPage}
 use Rattle.tray.specs.Written.{written, cleared}
 use Rattle.pgm.specs.Reading as pgm
 use Rattle.pgm.specs.declared.Header.{Header}

@@ -9,7 +9,7 @@ use Rattle.refusal.specs.Chain.{_then_}
 use Rattle.refusal.specs.declared.Answer.{Answer}
 use Rattle.refusal.specs.declared.Answer.the-variants.{Done}
 use Rattle.ticket.specs.declared.Ticket.{Ticket}
-use Rattle.tray.specs.Placement.{sourcePage, outputPage}
+use Rattle.placement.specs.Placement.{sourcePage, outputPage}
 use Rattle.tray.specs.Written.{written, cleared}
 use Rattle.pgm.specs.Reading.{judged, headerIn}
 use Rattle.pgm.specs.declared.Header.{Header}

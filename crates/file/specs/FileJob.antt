@@ -11,7 +11,7 @@ use Rattle.refusal.specs.declared.Answer.the-variants.{Done}
 use Rattle.ticket.specs.Judging as tickets
 use Rattle.ticket.specs.Reading.{shown}
 use Rattle.ticket.specs.declared.Ticket.{Ticket}
-use Rattle.tray.specs.Placement.{sourcePage, outputPage}
+use Rattle.placement.specs.Placement.{sourcePage, outputPage}
 use Rattle.tray.specs.Written.{written, cleared}
 use Rattle.pgm.specs.Reading as pgm
 use Rattle.pgm.specs.declared.Header.{Header}

@@ -15,11 +15,11 @@ use Rattle.refusal.specs.declared.Answer.the-variants.{Done}
 use Rattle.ticket.specs.Judging as tickets
 use Rattle.ticket.specs.Laws.{Allowed, Bytes, good-allowed}
 use Rattle.ticket.specs.Reading.{shown}
-use Rattle.tray.specs.Placement.{byteOf, pixelIn, sourcePage, outputPage}
+use Rattle.placement.specs.Placement.{byteOf, pixelIn, columnOf, rowOf, inside, Placed, sourcePage, outputPage}
+use Rattle.placement.specs.Laws as placement
+use Rattle.placement.specs.declared.Placement.{Placement}
 use Rattle.tray.specs.Laws as tray
-use Rattle.tray.specs.Promises.{Placed}
-use Rattle.tray.specs.Written.{columnOf, rowOf, inside, written, cleared}
-use Rattle.tray.specs.declared.Placement.{Placement}
+use Rattle.tray.specs.Written.{written, cleared}
 use Rattle.filter.specs.Within.{page-within}
 use Rattle.pgm.specs.Header.{widthIn, heightIn, maximumIn, pixelsStart}
 use Rattle.pgm.specs.Laws.{Read, read-good, told-small}
@@ -172,9 +172,9 @@ module _ (ticket file out scratch : List ℕ) (work : ℕ)
   unfolding pixelIn outputPage placesOf
   file-pixel c r c-in r-in =
       ap (λ (tray : List ℕ). getD tray (byteOf to c r) 0) output-is
-      ∙ headed-behind (headerFor h) page (byteOf to c r) (tray.byte-from to c r)
+      ∙ headed-behind (headerFor h) page (byteOf to c r) (placement.byte-from to c r)
       ∙ tray.written-pixel to (filePage (shown ticket) file) out c r c-in c-in r-in
-      (tray.byte-below to (length out) c r (file-stands .to) c-in r-in)
+      (placement.byte-below to (length out) c r (file-stands .to) c-in r-in)
 
   -- and behind the file every byte is as it was
   pub file-rest : (i : ℕ) → fileLength h ≤ i → getD (fileOutputAfter ticket file out scratch) i 0 ≡ getD out i 0
@@ -183,7 +183,7 @@ module _ (ticket file out scratch : List ℕ) (work : ℕ)
       ap (λ (tray : List ℕ). getD tray i 0) output-is
       ∙ headed-behind (headerFor h) page i (omega arith)
       ∙ tray.written-outside to (filePage (shown ticket) file) out i
-      (tray.outside-past to (fileLength h) i to-rows past)
+      (placement.outside-past to (fileLength h) i to-rows past)
 
   pub output-length : length (fileOutputAfter ticket file out scratch) ≡ length out
   output-length =
@@ -203,8 +203,8 @@ module _ (ticket file out scratch : List ℕ) (work : ℕ)
   unfolding pixelIn sourcePage placesOf pgm.headerIn
   source-within c r c-in r-in =
       let at = byteOf from c r in
-      let low : pixelsStart file ≤ at = tray.byte-from from c r in
-      let high : at < pixelsStart file + h .width * h .height = tray.byte-below from _ c r from-rows c-in r-in in
+      let low : pixelsStart file ≤ at = placement.byte-from from c r in
+      let high : at < pixelsStart file + h .width * h .height = placement.byte-below from _ c r from-rows c-in r-in in
       let count : at - pixelsStart file < h .width * h .height = omega arith in
       let here : pixelsStart file + (at - pixelsStart file) ≡ at = omega arith in
       let inside = subst (λ (n : ℕ). at - pixelsStart file < n) sides-product count in
@@ -227,7 +227,7 @@ module _ (ticket file out scratch : List ℕ) (work : ℕ)
   -- every byte of the written file behind its header is a pixel
   byte-inside : (i : ℕ) → i < h .width * h .height → inside to (length (headerFor h) + i) ≡ true
   unfolding outputPage placesOf
-  byte-inside i i-in = tray.inside-rows to i refl (to-rows .width-least) i-in
+  byte-inside i i-in = placement.inside-rows to i refl (to-rows .width-least) i-in
 
   page-byte :
       (at : ℕ) → at < length out → inside to at ≡ true

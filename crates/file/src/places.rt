@@ -3,8 +3,8 @@ ghost use mathlib.Core.Path.{_≡_};
 ghost use Rattle.file.specs.Places.{placesOf};
 use pgm::Header;
 use pgm::write::header_length;
-use tray::Placements;
-use tray::Spot;
+use placement::Placements;
+use placement::Spot;
 
 // In the file at its first pixel, in what is given back behind the header; rows follow one another.
 pub fn places_of(h: Header) -> Placements

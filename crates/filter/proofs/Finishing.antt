@@ -15,13 +15,13 @@ use Rattle.geometry.specs.Tables.{ProfileTable, ReachTable}
 use Rattle.geometry.specs.declared.Line.{Line}
 use Rattle.runs.specs.Grid.{Tabled}
 use Rattle.ticket.specs.declared.HiddenBox.{HiddenBox}
-use Rattle.tray.specs.Placement.{pixelIn}
+use Rattle.placement.specs.Placement.{pixelIn}
+use Rattle.placement.specs.declared.Placement.{Placement}
 use Rattle.tray.specs.Promises.{SameSides, PageIn, compactPixel}
 use Rattle.tray.specs.Written.{written}
 use Rattle.tray.specs.Laws.{written-same}
 use Rattle.tray.specs.Turned.{acrossOf, downOf, compactHeight, compactAt}
 use Rattle.tray.specs.declared.Layout.{Layout}
-use Rattle.tray.specs.declared.Placement.{Placement}
 use Rattle.filter.specs.Seen.{View, seen, turned}
 use Rattle.filter.specs.Filters.{operated, filtered, orWhite, recipeBoxes, filteredPage}
 use Rattle.filter.specs.Work.{workOf}
@@ -83,7 +83,7 @@ module _ (boxes : List HiddenBox) (width height : ℕ) (pixel : ℕ → ℕ → 
 module _ (how : Recipe) (p : Placement) (source : List ℕ) (bytes : (k : ℕ) → getD source k 0 < 256) where
   pixel-small : (c r : ℕ) → pixelIn source p c r < 256
   unfolding pixelIn
-  pixel-small c r = bytes (Rattle.tray.specs.Placement.byteOf p c r)
+  pixel-small c r = bytes (Rattle.placement.specs.Placement.byteOf p c r)
 
   abbrev shown : View
   shown = seen (recipeBoxes how) (p .width) (p .height) (pixelIn source p)

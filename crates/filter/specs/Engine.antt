@@ -13,11 +13,10 @@ use Rattle.geometry.specs.Drift.{Allowed, falls, mirrored, drift, reach}
 use Rattle.runs.specs.Grid.{Page, Tabled}
 use Rattle.runs.specs.declared.Grid.{Grid}
 use Rattle.hiding.specs.Hiding.{BoxesLie}
-use Rattle.tray.specs.Placement.{pixelIn}
-use Rattle.tray.specs.Promises.{Placed}
+use Rattle.placement.specs.Placement.{pixelIn, Placed}
+use Rattle.placement.specs.declared.Placement.{Placement}
 use Rattle.tray.specs.Turned.{acrossOf, downOf, compactHeight, compactWidth, compactAt}
 use Rattle.tray.specs.declared.Layout.{Layout}
-use Rattle.tray.specs.declared.Placement.{Placement}
 use Rattle.filter.specs.Seen.{View, runsSteep, turned}
 use Rattle.filter.specs.Filters.{dilationBack, pass, recipeBoxes, filteredPage}
 use Rattle.filter.specs.Work.{passWork, workOf}

@@ -4,10 +4,9 @@ use mathlib.Core.Path.{_≡_}
 use mathlib.Core.List.{List}
 use Prim.Native.Nat.{ℕ, _+_, _*_, _≤_}
 use lib.ListN.{length, getD}
-use Rattle.tray.specs.Placement.{pixelIn}
-use Rattle.tray.specs.Promises.{Placed}
+use Rattle.placement.specs.Placement.{pixelIn, Placed}
+use Rattle.placement.specs.declared.Placement.{Placement}
 use Rattle.tray.specs.Written.{written}
-use Rattle.tray.specs.declared.Placement.{Placement}
 use Rattle.filter.specs.Filters.{filteredPage}
 use Rattle.filter.specs.Work.{workOf}
 use Rattle.filter.specs.Engine.{Enters}

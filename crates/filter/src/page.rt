@@ -8,8 +8,8 @@ ghost use Rattle.filter.specs.Engine.{layoutOf, Tables, Enters, Ready};
 ghost use Rattle.filter.specs.Promises.{Fits, Filtered};
 use super::Recipe;
 use super::passes;
+use placement::Placement;
 use tray::Layout;
-use tray::Placement;
 
 // A table for the longest side.
 fn no_entries() -> [usize; 8192]

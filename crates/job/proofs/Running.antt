@@ -21,12 +21,13 @@ use Rattle.ticket.specs.declared.Reading.{Reading}
 use Rattle.ticket.specs.declared.Ticket.{Ticket}
 use Rattle.boxes.specs.Boxes.{boxesOf}
 use Rattle.hiding.specs.Hiding.{BoxesLie}
-use Rattle.tray.specs.Placement.{allowed, sourcePage, outputPage, scratchNeeded}
-use Rattle.tray.specs.Laws as tray
-use Rattle.tray.specs.Laws.{length-cleared, cleared-below, cleared-above, scratch-pages}
+use Rattle.placement.specs.Placement.{allowed, sourcePage, outputPage, scratchNeeded}
+use Rattle.placement.specs.Laws as placement
+use Rattle.placement.specs.Laws.{scratch-pages}
+use Rattle.placement.specs.declared.Placement.{Placement}
+use Rattle.placement.specs.declared.Placements.{Placements}
+use Rattle.tray.specs.Laws.{length-cleared, cleared-below, cleared-above}
 use Rattle.tray.specs.Written.{written, cleared}
-use Rattle.tray.specs.declared.Placement.{Placement}
-use Rattle.tray.specs.declared.Placements.{Placements}
 use Rattle.filter.specs.Engine.{layoutOf}
 use Rattle.filter.specs.Filters.{recipeBoxes}
 use Rattle.filter.specs.Promises.{Fits, Filtered}
@@ -47,7 +48,7 @@ pub scratch-as :
 unfolding judgeSides sourcePage
 scratch-as t p pages e done =
     let both = unless-done (allowed (sourcePage p) && allowed (outputPage p)) BadSides 0 done in
-    let small = tray.sides-most (sourcePage p) (and-eq-true-iff (allowed (sourcePage p)) (allowed (outputPage p)) .0 both .0) in
+    let small = placement.sides-most (sourcePage p) (and-eq-true-iff (allowed (sourcePage p)) (allowed (outputPage p)) .0 both .0) in
     (omega (arith, pages-most t), small .0, small .1)
 
 pub needed-as :

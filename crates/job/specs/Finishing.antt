@@ -10,9 +10,9 @@ use Rattle.refusal.specs.declared.Answer.{Answer}
 use Rattle.refusal.specs.declared.Answer.the-variants.{Done}
 use Rattle.ticket.specs.Laws.{Allowed}
 use Rattle.ticket.specs.declared.Ticket.{Ticket}
-use Rattle.tray.specs.Placement.{sourcePage, outputPage}
+use Rattle.placement.specs.Placement.{sourcePage, outputPage}
+use Rattle.placement.specs.declared.Placements.{Placements}
 use Rattle.tray.specs.Written.{written, cleared}
-use Rattle.tray.specs.declared.Placements.{Placements}
 use Rattle.job.specs.Judging.{judgePlaces}
 use Rattle.job.specs.Job.{finishedWith, jobWork, jobScratch, lengths}
 

@@ -11,10 +11,10 @@ use Rattle.refusal.specs.declared.Answer.the-variants.{Done}
 use Rattle.ticket.specs.Judging.{judged}
 use Rattle.ticket.specs.Reading.{shown}
 use Rattle.ticket.specs.declared.Ticket.{Ticket}
-use Rattle.tray.specs.Placement.{pixelIn, sourcePage, outputPage, scratchNeeded}
+use Rattle.placement.specs.Placement.{pixelIn, sourcePage, outputPage, scratchNeeded}
+use Rattle.placement.specs.declared.Placement.{Placement}
+use Rattle.placement.specs.declared.Placements.{Placements}
 use Rattle.tray.specs.Written.{written, cleared}
-use Rattle.tray.specs.declared.Placement.{Placement}
-use Rattle.tray.specs.declared.Placements.{Placements}
 use Rattle.filter.specs.Filters.{filteredPage}
 use Rattle.filter.specs.Work.{workOf}
 use Rattle.job.specs.Order.{segmentOf, recipeOf, white, pagesOf}

@@ -12,8 +12,8 @@ use Rattle.refusal.specs.declared.Refusal.the-variants.{BadSides, SourceTooShor
 use Rattle.ticket.specs.declared.HiddenBox.{HiddenBox}
 use Rattle.ticket.specs.declared.Ticket.{Ticket}
 use Rattle.boxes.specs.Boxes.{boxesOf, boxAllowed}
-use Rattle.tray.specs.Placement.{allowed, fits, sourcePage, outputPage, scratchNeeded}
-use Rattle.tray.specs.declared.Placements.{Placements}
+use Rattle.placement.specs.Placement.{allowed, fits, sourcePage, outputPage, scratchNeeded}
+use Rattle.placement.specs.declared.Placements.{Placements}
 use Rattle.job.specs.Order.{pagesOf}
 use Rattle.job.specs.declared.Lengths.{Lengths}
 

@@ -21,12 +21,12 @@ use Rattle.ticket.specs.Reading.{shown}
 use Rattle.ticket.specs.declared.HiddenBox.{HiddenBox}
 use Rattle.ticket.specs.declared.Ticket.{Ticket}
 use Rattle.boxes.specs.Boxes.{boxesOf, boxAllowed}
-use Rattle.tray.specs.Placement.{byteOf, pixelIn, allowed, fits, sourcePage, outputPage, scratchNeeded}
+use Rattle.placement.specs.Placement.{byteOf, pixelIn, allowed, fits, Placed, sourcePage, outputPage, scratchNeeded}
+use Rattle.placement.specs.Laws as placement
+use Rattle.placement.specs.declared.Placement.{Placement}
+use Rattle.placement.specs.declared.Placements.{Placements}
 use Rattle.tray.specs.Laws as tray
-use Rattle.tray.specs.Promises.{Placed}
 use Rattle.tray.specs.Written.{written}
-use Rattle.tray.specs.declared.Placement.{Placement}
-use Rattle.tray.specs.declared.Placements.{Placements}
 use Rattle.filter.specs.Seen.{seen}
 use Rattle.filter.specs.Filters.{filtered, orWhite, recipeBoxes, filteredPage}
 use Rattle.job.specs.Order.{lineOf, segmentOf, recipeOf, pagesOf}
@@ -82,8 +82,8 @@ stands t p n done =
     let sides = unless-done (allowed (sourcePage p) && allowed (outputPage p)) BadSides 0 (from-sides .0) in
     let both = and-eq-true-iff (allowed (sourcePage p)) (allowed (outputPage p)) .0 sides in
     record {
-      from = tray.placed (sourcePage p) (n .source) (both .0) (unless-done (fits (sourcePage p) (n .source)) SourceTooShort 0 (from-source .0));
-      to = tray.placed (outputPage p) (n .output) (both .1) (unless-done (fits (outputPage p) (n .output)) OutputTooShort 0 (from-output .0));
+      from = placement.placed (sourcePage p) (n .source) (both .0) (unless-done (fits (sourcePage p) (n .source)) SourceTooShort 0 (from-source .0));
+      to = placement.placed (outputPage p) (n .output) (both .1) (unless-done (fits (outputPage p) (n .output)) OutputTooShort 0 (from-output .0));
       room =
           leb-true _ _
           (unless-done (leb (scratchNeeded (pagesOf t) (p .width) (p .height)) (n .scratch)) ScratchTooShort 0 (from-scratch .0));
@@ -143,4 +143,4 @@ output-pixel ticket p source out scratch work done c r c-in r-in =
     ap (λ (tray : List ℕ). getD tray (byteOf (outputPage p) c r) 0)
     (when-done (answer ticket p (lengths source out scratch)) (written (outputPage p) page out) out (ap isDone done))
     ∙ tray.written-pixel (outputPage p) page out c r (omega (arith, to .stride-least)) c-in r-in
-    (tray.byte-below (outputPage p) (length out) c r to c-in r-in)
+    (placement.byte-below (outputPage p) (length out) c r to c-in r-in)

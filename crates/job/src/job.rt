@@ -10,11 +10,11 @@ use super::judge::judge;
 use super::order::pages_of;
 use super::order::recipe_of;
 use filter::page::filter;
+use placement::Placements;
+use placement::place;
 use refusal::Answer;
 use refusal::report::is_done;
 use ticket::Ticket;
-use tray::Placements;
-use tray::place;
 
 // "A hidden pixel comes out as 255 in every finished page."
 const WHITE: u8 = 255;

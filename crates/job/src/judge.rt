@@ -3,19 +3,19 @@
 ghost use mathlib.Core.Path.{_≡_};
 ghost use Prim.Native.Nat.{_≤_};
 ghost use lib.ListN.{length};
-ghost use Rattle.tray.specs.Placement.{longestSide, mostPages};
+ghost use Rattle.placement.specs.Placement.{longestSide, mostPages};
 ghost use Rattle.boxes.specs.Boxes.{boxesOf};
 ghost use Rattle.job.specs.Judging.{judgeSides, judgeSource, judgeOutput, judgeScratch, judgePageBoxes, judgePlaces};
 use super::Lengths;
 use super::order::pages_of;
+use placement::Placements;
+use placement::place;
 use refusal::Answer;
 use refusal::Refusal;
 use refusal::chain::first_refusal;
 use refusal::chain::refuse_unless;
 use refusal::report::is_done;
 use ticket::Ticket;
-use tray::Placements;
-use tray::place;
 
 // 10: both pages are within the limits.
 pub fn judge_sides(p: Placements) -> Answer

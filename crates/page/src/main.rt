@@ -6,9 +6,9 @@
 mod text;
 
 use libc::STDIN_FILENO;
+use placement::Placements;
+use placement::Spot;
 use refusal::report;
-use tray::Placements;
-use tray::Spot;
 ghost use Prim.Native.Nat.{_+_, _<_, _≤_};
 ghost use lib.ListN.{length};
 

@@ -4,7 +4,7 @@ use mathlib.Core.List.{List}
 use Prim.Native.Nat.{ℕ}
 use Rattle.refusal.specs.declared.Answer.{Answer}
 use Rattle.job.specs.Job.{lengths, answer, outputAfter, scratchAfter}
-use Rattle.tray.specs.declared.Placements.{Placements}
+use Rattle.placement.specs.declared.Placements.{Placements}
 use Rattle.sotrugla.specs.Outcome.{outcomeOf}
 use Rattle.sotrugla.specs.declared.Outcome.{Outcome}
 

@@ -2,10 +2,10 @@
 -- Assumes nothing.
 use Prim.Native.Nat.{ℕ}
 use mathlib.Core.Bool.{_&&_, cond}
-use Rattle.tray.specs.Placement.{sideAllowed, scratchNeeded}
+use Rattle.placement.specs.Placement.{sideAllowed, scratchNeeded}
+use Rattle.placement.specs.declared.Placements.{Placements}
 use Rattle.refusal.specs.Answer.{numberOf, placeOf, workIn}
 use Rattle.refusal.specs.declared.Answer.{Answer}
-use Rattle.tray.specs.declared.Placements.{Placements}
 use Rattle.sotrugla.specs.declared.Outcome.{Outcome}
 
 -- width, height, source offset and stride, output offset and stride

@@ -10,7 +10,7 @@ use Rattle.refusal.specs.Chain.{unless, _then_}
 use Rattle.ticket.specs.Fields.{byteAt, numberAt, signed16, signedAt, operationIn, lineIn, dxIn, dyIn, lengthIn, originIn, phaseIn, fieldEnd, boxAt, boxesFrom, boxesIn}
 use Rattle.ticket.specs.Judging.{judgeHead, judgeSize, judgeField, operationKnown, lineKnown, isPeriodic, divided, coprime, vectorAllowed, lengthAllowed, originAllowed, phaseAllowed, judgeOperation, judgeLine, judgeVector, judgeLength, judgeOrigin, judgePhase, judgeBox, judgeBoxes, judged}
 use Rattle.ticket.specs.Reading.{blank, boxPlaces, shown, reading}
-use Rattle.tray.specs.Placement.{sideAllowed, scratchNeeded}
+use Rattle.placement.specs.Placement.{sideAllowed, scratchNeeded}
 use Rattle.boxes.specs.Boxes.{covers, hidden, boxesOf}
 use Rattle.sotrugla.specs.Hiding.{hiddenBy}
 use Rattle.sotrugla.specs.Outcome.{scratchFor}

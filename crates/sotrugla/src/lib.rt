@@ -11,10 +11,10 @@ ghost use Rattle.sotrugla.specs.Shown.{readOutcome, numbersAfter};
 ghost use Rattle.sotrugla.specs.Outcome.{placementsOf, outcomeOf, scratchFor};
 ghost use Rattle.sotrugla.specs.Hiding.{hiddenBy};
 ghost use Rattle.sotrugla.specs.Version.{version};
+use placement::Placements;
+use placement::Spot;
 use refusal::Answer;
 use refusal::report;
-use tray::Placements;
-use tray::Spot;
 
 // An answer: refusal is 0 for a finished page or a ticket that was read, else the number of the refusal. 1 to 25
 // are the documents' (1 to 17 so far); 100 is ours and means a buffer of numbers that is too short.
@@ -106,13 +106,13 @@ const JOB_PAGES: usize = 2;
 pub extern "C" fn sotrugla_scratch_needed(width: usize, height: usize) -> usize
     ensures { λ r. ⌜ r ≡ scratchFor width height ⌝ }
 {
-    if !tray::place::is_side(width) {
+    if !placement::place::is_side(width) {
         return 0;
     }
-    if !tray::place::is_side(height) {
+    if !placement::place::is_side(height) {
         return 0;
     }
-    tray::place::scratch_needed(JOB_PAGES, width, height)
+    placement::place::scratch_needed(JOB_PAGES, width, height)
 }
 
 // What every function answers that is handed a buffer of numbers too short: its place is the numbers needed, and

@@ -9,14 +9,15 @@ use native.Mathlib.Omega.{arith}
 use lib.ListN.{length, getD}
 use Rattle.geometry.specs.Drift.{mirrored}
 use Rattle.geometry.specs.Laws.{mirrored-rising, mirrored-twice}
+use Rattle.placement.specs.Placement.{byteOf, pixelIn, longestSide, Placed}
+use Rattle.placement.specs.Laws.{outside-past}
+use Rattle.placement.specs.declared.Placement.{Placement}
 use Rattle.tray.specs.declared.Layout.{Layout}
-use Rattle.tray.specs.declared.Placement.{Placement}
 use Rattle.tray.specs.declared.turn.Turn.{Turn}
-use Rattle.tray.specs.Placement.{byteOf, pixelIn, longestSide}
 use Rattle.tray.specs.Written.{written}
 use Rattle.tray.specs.Turned.{downOf, acrossOf, compactRow, compactColumn, compactAt, compactOf}
-use Rattle.tray.specs.Promises.{Placed, SameSides, PageIn, compactPixel}
-use Rattle.tray.specs.Laws.{outside-past, length-written, written-outside, written-pixel, written-same}
+use Rattle.tray.specs.Promises.{SameSides, PageIn, compactPixel}
+use Rattle.tray.specs.Laws.{length-written, written-outside, written-pixel, written-same}
 use Rattle.tray.specs.Laws.{laidSo, compact-row-in, compact-column-in, compact-below, compact-byte}
 use Rattle.tray.specs.Pieces.{Alike, Turnable, copiedPixel, sourcePixel, turnedPixel}
 

@@ -1,4 +1,3 @@
-mod Decisions
 mod Stores
 mod Lent
 mod Painting

@@ -11,13 +11,13 @@ use native.Mathlib.Omega.{arith}
 use lib.ListN.{length, getD, take, drop}
 use lib.Seq.{ext-getD, getD-take, getD-drop}
 use borrow.Rule.Slice.PartMut.{putMid}
-use Rattle.tray.specs.declared.Placement.{Placement}
+use Rattle.placement.specs.Placement.{rowStart, byteOf, pixelIn, Placed}
+use Rattle.placement.specs.Laws.{row-room, row-next, row-pixel, byte-is}
+use Rattle.placement.specs.declared.Placement.{Placement}
 use Rattle.tray.specs.declared.turn.Turn.{Turn}
-use Rattle.tray.specs.Placement.{rowStart, byteOf, pixelIn}
 use Rattle.geometry.specs.Drift.{mirrored}
 use Rattle.geometry.specs.Laws.{mirrored-falling, mirrored-rising, mirrored-below, mirrored-twice}
-use Rattle.tray.specs.Promises.{Placed, RowFilled}
-use Rattle.tray.specs.Laws.{row-room, row-next, row-pixel, byte-is}
+use Rattle.tray.specs.Promises.{RowFilled}
 use Rattle.tray.specs.Tiles.{Copied, Transposed}
 use Rattle.tray.specs.Pieces.{Right, Moved, Taken, Part, PutRows}
 use Rattle.tray.specs.Pieces.{copiedPixel, sourcePixel, turnedPixel, rowStepOf}

@@ -10,8 +10,8 @@ use native.Mathlib.Decide.{decLt}
 use native.Mathlib.Omega.{arith}
 use lib.ListN.{length, getD}
 use lib.Seq.{ext-getD}
+use Rattle.placement.specs.declared.Placement.{Placement}
 use Rattle.tray.specs.declared.Layout.{Layout}
-use Rattle.tray.specs.declared.Placement.{Placement}
 use Rattle.tray.specs.declared.Rectangle.{Rectangle}
 use Rattle.tray.specs.Turned.{InRectangle}
 use Rattle.tray.specs.Promises.{RowFilled, RectanglePainted, BoxPainted, PageIn}

@@ -10,15 +10,15 @@ use native.Mathlib.Omega.{arith}
 use lib.ListN.{length, getD, take, drop, set, length-set}
 use lib.Seq.{ext-getD, getD-take, getD-drop, getD-set-same, getD-set-other}
 use borrow.Rule.Slice.PartMut.{putMid}
-use Rattle.tray.specs.declared.Placement.{Placement}
+use Rattle.placement.specs.Placement.{rowStart, byteOf, columnOf, rowOf, inside, Placed}
+use Rattle.placement.specs.Laws.{row-room, rows-apart, byte-is, inside-byte, inside-pixel}
+use Rattle.placement.specs.declared.Placement.{Placement}
 use Rattle.tray.specs.declared.turn.Turn.{Turn}
-use Rattle.tray.specs.Placement.{rowStart, byteOf}
-use Rattle.tray.specs.Written.{columnOf, rowOf, inside, written}
+use Rattle.tray.specs.Written.{written}
 use Rattle.geometry.specs.Drift.{mirrored}
 use Rattle.geometry.specs.Laws.{mirrored-below, mirrored-twice}
-use Rattle.tray.specs.Promises.{Placed}
 use Rattle.tray.specs.Pieces.{Right, Moved, Turnable, Stored, Part}
-use Rattle.tray.specs.Laws.{row-room, rows-apart, byte-is, inside-byte, inside-pixel, length-written, written-at}
+use Rattle.tray.specs.Laws.{length-written, written-at}
 use Rattle.tray.proofs.Lent.{lent-length, lent-below, lent-within, lent-above}
 
 -- ---- changes of a tray, one after the other

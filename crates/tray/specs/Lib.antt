@@ -1,4 +1,3 @@
-pub mod Placement
 pub mod Written
 pub mod Turned
 pub mod Tiles

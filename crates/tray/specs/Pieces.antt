@@ -5,12 +5,11 @@ use mathlib.Core.Bool.{Bool, true, false}
 use mathlib.Core.List.{List}
 use Prim.Native.Nat.{ℕ, _+_, _-_, _*_, _≤_, _<_, _^_}
 use lib.ListN.{length, getD}
-use Rattle.tray.specs.declared.Placement.{Placement}
+use Rattle.placement.specs.Placement.{byteOf, pixelIn, Placed}
+use Rattle.placement.specs.declared.Placement.{Placement}
 use Rattle.tray.specs.declared.turn.Turn.{Turn}
-use Rattle.tray.specs.Placement.{byteOf, pixelIn}
 use Rattle.tray.specs.Written.{written}
 use Rattle.geometry.specs.Drift.{mirrored}
-use Rattle.tray.specs.Promises.{Placed}
 
 -- the tray holds the page's pixel at column c, row r
 abbrev pub Right : Placement → (ℕ → ℕ → ℕ) → List ℕ → ℕ → ℕ → Type 0

@@ -4,24 +4,14 @@
 use mathlib.Core.Path.{_≡_}
 use mathlib.Core.Bool.{Bool}
 use mathlib.Core.List.{List}
-use Prim.Native.Nat.{ℕ, _+_, _-_, _*_, _≤_, _<_}
+use Prim.Native.Nat.{ℕ, _+_, _*_, _≤_, _<_}
 use lib.ListN.{length, getD}
+use Rattle.placement.specs.Placement.{pixelIn}
+use Rattle.placement.specs.declared.Placement.{Placement}
 use Rattle.tray.specs.declared.Layout.{Layout}
-use Rattle.tray.specs.declared.Placement.{Placement}
 use Rattle.tray.specs.declared.Rectangle.{Rectangle}
-use Rattle.tray.specs.Placement.{pixelIn, longestSide, longestStride}
 use Rattle.geometry.specs.Drift.{mirrored}
 use Rattle.tray.specs.Turned.{compactAt, InRectangle}
-
--- a page within the limits, in a tray of n bytes that it fits
-pub record Placed (p : Placement) (n : ℕ) : Type 0 where
-  pub width-least : 1 ≤ p .width
-  pub width-most : p .width ≤ longestSide
-  pub height-least : 1 ≤ p .height
-  pub height-most : p .height ≤ longestSide
-  pub stride-least : p .width ≤ p .stride
-  pub stride-most : p .stride ≤ longestStride
-  pub fitting : p .offset + (p .height - 1) * p .stride + p .width ≤ n
 
 -- a row holds the other, read from the other end where it is mirrored
 pub record RowFilled (from : List ℕ) (falls : Bool) (to : List ℕ) : Type 0 where

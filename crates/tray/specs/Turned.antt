@@ -5,8 +5,8 @@
 use Prim.Native.Nat.{ℕ, _+_, _-_, _*_, _≤_, _<_}
 use mathlib.Core.Bool.{Bool, true, false}
 use Rattle.geometry.specs.Drift.{mirrored}
+use Rattle.placement.specs.declared.Placement.{Placement}
 use Rattle.tray.specs.declared.Layout.{Layout}
-use Rattle.tray.specs.declared.Placement.{Placement}
 use Rattle.tray.specs.declared.Rectangle.{Rectangle}
 
 -- Of a column and a row, or of a width and a height: the one along which the lines run ..

@@ -1,20 +1,17 @@
--- Two rows of three pixels in the middle of a tray: offset 2, stride 4. Their places on the compact page, and a box
--- over the last two pixels of the second row.
+-- Two rows of three pixels written into the middle of a tray (offset 2, stride 4). Their places on the compact page, and
+-- a box over the last two pixels of the second row.
 -- Assumes nothing.
 use mathlib.Core.Path.{_≡_, refl}
 use Prim.Native.Nat.{ℕ, _+_, _*_}
 use mathlib.Core.Bool.{Bool, true, false}
-use mathlib.Core.List.{List, [], _∷_, map}
-use Rattle.tray.specs.Placement.{allowed, sideAllowed, fits, scratchNeeded}
-use Rattle.tray.specs.Written.{columnOf, rowOf, inside, writtenFrom, written, cleared}
+use mathlib.Core.List.{List, [], _∷_}
+use Rattle.placement.specs.Placement.{columnOf, rowOf, inside}
+use Rattle.placement.specs.Worked.{middle}
+use Rattle.tray.specs.Written.{writtenFrom, written, cleared}
 use Rattle.geometry.specs.Drift.{mirrored}
 use Rattle.tray.specs.Turned.{downOf, acrossOf, compactColumn, compactAt}
 use Rattle.tray.specs.Turned.{boxed, mirroredFrom, mirroredTo, turnedBox}
 use Rattle.tray.specs.declared.Layout.{Layout}
-use Rattle.tray.specs.declared.Placement.{Placement}
-
-abbrev middle : Placement
-middle = record { offset = 2; width = 3; height = 2; stride = 4 }
 
 abbrev numbered : ℕ → ℕ → ℕ
 numbered c r = 10 * r + c + 1
@@ -24,32 +21,6 @@ lands :
     ≡ 90 ∷ 91 ∷ 1 ∷ 2 ∷ 3 ∷ 95 ∷ 11 ∷ 12 ∷ 13 ∷ 99 ∷ []
 unfolding written writtenFrom inside columnOf rowOf
 lands = refl
-
--- nine bytes are enough, eight are one too few
-just-fits : map (fits middle) (9 ∷ 8 ∷ []) ≡ true ∷ false ∷ []
-unfolding fits
-just-fits = refl
-
--- the largest 64-bit number as an offset: the sum does not wrap to something small
-no-wrap :
-    fits (record { offset = 18446744073709551615; width = 1; height = 1; stride = 1 }) 18446744073709551615 ≡ false
-unfolding fits
-no-wrap = refl
-
-limits : map allowed
-    (record { offset = 0; width = 8192; height = 8192; stride = 16384 }
-    ∷ record { offset = 0; width = 0; height = 1; stride = 1 }
-    ∷ record { offset = 0; width = 1; height = 8193; stride = 1 }
-    ∷ record { offset = 0; width = 3; height = 1; stride = 2 }
-    ∷ record { offset = 0; width = 3; height = 1; stride = 16385 }
-    ∷ [])
-    ≡ true ∷ false ∷ false ∷ false ∷ false ∷ []
-unfolding allowed sideAllowed
-limits = refl
-
-scratch : map (λ (h : ℕ). scratchNeeded 2 3 h) (1 ∷ 2 ∷ 5 ∷ []) ≡ 15 ∷ 21 ∷ 45 ∷ []
-unfolding scratchNeeded
-scratch = refl
 
 used-is-zero : cleared 3 (7 ∷ 7 ∷ 7 ∷ 7 ∷ []) ≡ 0 ∷ 0 ∷ 0 ∷ 7 ∷ []
 unfolding cleared

@@ -2,23 +2,12 @@
 -- at zero"; "Only these first bytes may be used; they hold zero at the end of a finished job. Later scratch bytes keep
 -- their values."
 -- Assumes nothing.
-use Prim.Native.Nat.{ℕ, zero, suc, _-_, _/_, _%_}
-use mathlib.Core.Bool.{Bool, _&&_, cond}
+use Prim.Native.Nat.{ℕ, zero, suc}
+use mathlib.Core.Bool.{cond}
 use mathlib.Core.List.{List, [], _∷_, _++_}
 use lib.ListN.{replicate, drop}
-use lib.Dec.{leb, ltb}
-use Rattle.tray.specs.declared.Placement.{Placement}
-
--- the column and the row that a byte of the tray would have: offset + r·stride + c, read backwards
-unfoldable pub columnOf : Placement → ℕ → ℕ
-columnOf p at = (at - p .offset) % p .stride
-
-unfoldable pub rowOf : Placement → ℕ → ℕ
-rowOf p at = (at - p .offset) / p .stride
-
--- whether a byte of the tray is one of the page
-unfoldable pub inside : Placement → ℕ → Bool
-inside p at = leb (p .offset) at && (ltb (columnOf p at) (p .width) && ltb (rowOf p at) (p .height))
+use Rattle.placement.specs.declared.Placement.{Placement}
+use Rattle.placement.specs.Placement.{columnOf, rowOf, inside}
 
 -- the tray from its byte at on, with a page written into it: the page's bytes are the page's pixels, every other is as
 -- it was

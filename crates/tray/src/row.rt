@@ -1,12 +1,12 @@
 // A row of a page, handed out as a part of its tray, and the filling of a row.
-use crate::Placement;
-use crate::place::row_start;
+use placement::Placement;
+use placement::place::row_start;
 ghost use mathlib.Core.Path.{_≡_};
 ghost use mathlib.Core.Bool.{true, false};
 ghost use Prim.Native.Nat.{_+_, _≤_, _<_};
 ghost use lib.ListN.{length, take, drop};
-ghost use Rattle.tray.specs.Placement.{rowStart};
-ghost use Rattle.tray.specs.Promises.{Placed, RowFilled};
+ghost use Rattle.placement.specs.Placement.{rowStart, Placed};
+ghost use Rattle.tray.specs.Promises.{RowFilled};
 
 // A row's own part of the caller's tray: from its start, exactly as long as the page is wide.
 pub fn row_from(tray: &[u8], start: usize, width: usize) -> &[u8]

@@ -1,6 +1,6 @@
 // The compact page of a layout: its sides, and its place in a tray of its own.
 use crate::Layout;
-use crate::Placement;
+use placement::Placement;
 ghost use mathlib.Core.Path.{_≡_};
 ghost use Rattle.tray.specs.Turned.{compactWidth, compactHeight, compactOf};
 

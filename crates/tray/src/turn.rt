@@ -2,8 +2,6 @@
 // transposed where they are shallow, and mirrored where they fall. Every row is read as a part of its tray, and written
 // through a part that is lent.
 use crate::Layout;
-use crate::Placement;
-use crate::place::row_start;
 use crate::row::fill_row;
 use crate::row::row;
 use crate::row::row_from;
@@ -12,13 +10,16 @@ use crate::tile::SIDE;
 use crate::tile::copy_side;
 use crate::tile::transpose;
 use geometry::normal::mirrored;
+use placement::Placement;
+use placement::place::row_start;
 use std::num::wrapping_add_usize;
 ghost use mathlib.Core.Path.{_≡_};
 ghost use Prim.Native.Nat.{_+_, _*_, _≤_, _<_};
 ghost use lib.ListN.{length};
+ghost use Rattle.placement.specs.Placement.{Placed};
 ghost use Rattle.tray.specs.Written.{written};
 ghost use Rattle.tray.specs.Tiles.{Copied};
-ghost use Rattle.tray.specs.Promises.{Placed, SameSides, PageIn, compactPixel};
+ghost use Rattle.tray.specs.Promises.{SameSides, PageIn, compactPixel};
 ghost use Rattle.tray.specs.Pieces.{Alike, Turnable, Stored, Taken, TurnedPart, TurnedRows, PutRows};
 ghost use Rattle.tray.specs.Pieces.{copiedPixel, sourcePixel, turnedPixel, rowStepOf};
 

@@ -33,10 +33,10 @@ use Rattle.ticket.specs.Judging as ticket-judging
 use Rattle.ticket.specs.Reading.{boxPlaces, shown}
 use Rattle.ticket.specs.declared.Ticket.{Ticket}
 use Rattle.boxes.specs.Boxes.{covers, hidden, boxesOf, boxAllowed}
-use Rattle.tray.specs.Placement.{rowStart, byteOf, pixelIn, sideAllowed, allowed, fits, sourcePage, outputPage}
-use Rattle.tray.specs.Placement.{scratchNeeded}
-use Rattle.tray.specs.Written.{columnOf, rowOf, inside, writtenFrom, written, cleared}
-use Rattle.tray.specs.declared.Placements.{Placements}
+use Rattle.placement.specs.Placement.{rowStart, byteOf, pixelIn, columnOf, rowOf, inside, sideAllowed, allowed, fits}
+use Rattle.placement.specs.Placement.{sourcePage, outputPage, scratchNeeded}
+use Rattle.placement.specs.declared.Placements.{Placements}
+use Rattle.tray.specs.Written.{writtenFrom, written, cleared}
 use Rattle.filter.specs.Seen.{seen, turned, runsSteep}
 use Rattle.filter.specs.Filters.{joined, extreme, valueAt, onLine, inWindow, passAt, pass, eroded, dilationBack}
 use Rattle.filter.specs.Filters.{erosion, dilation, opening, closing}

@@ -3,8 +3,8 @@ use mathlib.Core.Path.{sym, _∙_}
 use native.Mathlib.Omega.{arith}
 use borrow.Author.Needs.{needs}
 use borrow.Author.Tests.{not-true, not-false}
-use Rattle.tray.specs.Laws.{side-most}
-use Rattle.tray.specs.Placement.{sideAllowed}
+use Rattle.placement.specs.Placement.{sideAllowed}
+use Rattle.placement.specs.Laws.{side-most}
 use Rattle.sotrugla.proofs.Sides.{none-wide, none-high, needed-both}
 use Rattle.sotrugla.proofs.sotrugla_scratch_needed.Statement.{statement}
 use Rattle.sotrugla.proofs.sotrugla_scratch_needed.Tie as tie

@@ -2,7 +2,7 @@
 use mathlib.Core.Path.{ap}
 use Prim.Native.Nat.{ℕ}
 use borrow.Author.Needs.{needs}
-use Rattle.tray.specs.declared.Placements.{Placements}
+use Rattle.placement.specs.declared.Placements.{Placements}
 use Rattle.file.specs.Places.{headerFor, placesOf}
 use Rattle.file.proofs.places.places_of.Statement.{statement}
 use Rattle.file.proofs.places.places_of.Tie as tie

@@ -4,7 +4,7 @@ use mathlib.Core.Bool.{Bool, _&&_}
 use borrow.Author.Needs.{needs}
 use Rattle.refusal.specs.Chain.{unless}
 use Rattle.refusal.specs.declared.Refusal.the-variants.{BadSides}
-use Rattle.tray.specs.Placement.{allowed}
+use Rattle.placement.specs.Placement.{allowed}
 use Rattle.job.specs.Judging.{judgeSides}
 use Rattle.job.proofs.judge.judge_sides.Statement.{statement}
 use Rattle.job.proofs.judge.judge_sides.Tie as tie

@@ -4,8 +4,8 @@ use mathlib.Core.Bool.{Bool}
 use borrow.Author.Needs.{needs}
 use Rattle.refusal.specs.Chain.{unless}
 use Rattle.refusal.specs.declared.Refusal.the-variants.{SourceTooShort}
-use Rattle.tray.specs.Placement.{fits}
-use Rattle.tray.specs.declared.Placement.{Placement}
+use Rattle.placement.specs.Placement.{fits}
+use Rattle.placement.specs.declared.Placement.{Placement}
 use Rattle.job.specs.Judging.{judgeSource}
 use Rattle.job.proofs.judge.judge_source.Statement.{statement}
 use Rattle.job.proofs.judge.judge_source.Tie as tie

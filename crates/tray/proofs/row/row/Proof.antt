@@ -4,8 +4,8 @@ use mathlib.Core.List.{List}
 use Prim.Native.Nat.{ℕ, _+_, _≤_}
 use native.Mathlib.Omega.{arith}
 use lib.ListN.{length, take, drop}
-use Rattle.tray.specs.Placement.{rowStart}
-use Rattle.tray.specs.Laws.{row-room}
+use Rattle.placement.specs.Placement.{rowStart}
+use Rattle.placement.specs.Laws.{row-room}
 use Rattle.tray.proofs.row.row.Statement.{statement}
 use Rattle.tray.proofs.row.row.Tie as tie
 

@@ -6,9 +6,8 @@ use native.Mathlib.Nat.{add-sub-cancel-left}
 use native.Mathlib.Omega.{arith}
 use borrow.Author.Needs.{needs}
 use lib.ListN.{length}
-use Rattle.tray.specs.Placement.{rowStart}
-use Rattle.tray.specs.Promises.{Placed}
-use Rattle.tray.specs.Laws.{row-room}
+use Rattle.placement.specs.Placement.{rowStart, Placed}
+use Rattle.placement.specs.Laws.{row-room}
 use Rattle.tray.specs.Pieces.{copiedPixel}
 use Rattle.tray.proofs.Lent.{part-length}
 use Rattle.tray.proofs.Pieces.{moved-length, Rows, rows-none, rows-more, rows-all}

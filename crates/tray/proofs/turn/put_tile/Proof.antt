@@ -6,7 +6,7 @@ use native.Mathlib.Omega.{arith}
 use borrow.Author.Needs.{needs}
 use lib.ListN.{length}
 use Rattle.geometry.specs.Drift.{mirrored}
-use Rattle.tray.specs.Placement.{rowStart}
+use Rattle.placement.specs.Placement.{rowStart}
 use Rattle.tray.specs.Pieces.{PutRows}
 use Rattle.tray.proofs.Lines.{mirrored-room, stepped, put-none, put-more}
 use Rattle.tray.proofs.turn.put_tile.Statement.{statement}

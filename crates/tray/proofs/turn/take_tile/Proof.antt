@@ -6,7 +6,7 @@ use native.Mathlib.Omega.{arith}
 use borrow.Author.Needs.{needs}
 use lib.ListN.{length}
 use Rattle.geometry.specs.Drift.{mirrored}
-use Rattle.tray.specs.Placement.{rowStart}
+use Rattle.placement.specs.Placement.{rowStart}
 use Rattle.tray.specs.Pieces.{Taken}
 use Rattle.tray.proofs.Lent.{part-length, copied-from}
 use Rattle.tray.proofs.Lines.{mirrored-room, stepped, taken-none, taken-more}

@@ -5,9 +5,9 @@ use native.Mathlib.Nat.{add-sub-cancel-left}
 use native.Mathlib.Omega.{arith}
 use borrow.Author.Needs.{needs}
 use lib.ListN.{length, take, drop}
-use Rattle.tray.specs.Placement.{rowStart}
+use Rattle.placement.specs.Placement.{rowStart}
+use Rattle.placement.specs.Laws.{row-room}
 use Rattle.geometry.specs.Laws.{mirrored-below}
-use Rattle.tray.specs.Laws.{row-room}
 use Rattle.tray.specs.Pieces.{sourcePixel, turnedPixel}
 use Rattle.tray.proofs.Lent.{part-length}
 use Rattle.tray.proofs.Pieces.{stored-as, part-row-at}

@@ -1,8 +1,8 @@
--- `tray::place::are_sides` meets its contract. Assumes nothing.
+-- `placement::place::are_sides` meets its contract. Assumes nothing.
 use borrow.Author.Needs.{needs}
-use Rattle.tray.proofs.Decisions.{and-then, and-not}
-use Rattle.tray.proofs.place.are_sides.Statement.{statement}
-use Rattle.tray.proofs.place.are_sides.Tie as tie
+use Rattle.placement.proofs.Decisions.{and-then, and-not}
+use Rattle.placement.proofs.place.are_sides.Statement.{statement}
+use Rattle.placement.proofs.place.are_sides.Tie as tie
 
 returns : tie.Need-returns
 returns c = and-then _ _ _ _ (c .before .before .is-side .ensures) (c .before .if1 .taken) (c .is-side2 .ensures)

@@ -1,9 +1,9 @@
--- `tray::place::row_start` meets its contract: neither the product nor the sum wraps. Assumes nothing.
+-- `placement::place::row_start` meets its contract: neither the product nor the sum wraps. Assumes nothing.
 use mathlib.Core.Path.{refl}
 use native.Mathlib.Omega.{arith}
-use Rattle.tray.specs.Placement.{rowStart}
-use Rattle.tray.proofs.place.row_start.Statement.{statement}
-use Rattle.tray.proofs.place.row_start.Tie as tie
+use Rattle.placement.specs.Placement.{rowStart}
+use Rattle.placement.proofs.place.row_start.Statement.{statement}
+use Rattle.placement.proofs.place.row_start.Tie as tie
 
 mul-result : tie.Need-mul-result
 unfolding rowStart

@@ -1,11 +1,11 @@
--- `tray::place::scratch_needed` meets its contract: no product of sides wraps. Assumes nothing.
+-- `placement::place::scratch_needed` meets its contract: no product of sides wraps. Assumes nothing.
 use Prim.Native.Nat.{_*_, _≤_}
 use native.Mathlib.Nat.{mul-le-mul}
 use native.Mathlib.Omega.{arith}
 use borrow.Author.Needs.{needs}
-use Rattle.tray.specs.Placement.{scratchNeeded}
-use Rattle.tray.proofs.place.scratch_needed.Statement.{statement}
-use Rattle.tray.proofs.place.scratch_needed.Tie as tie
+use Rattle.placement.specs.Placement.{scratchNeeded}
+use Rattle.placement.proofs.place.scratch_needed.Statement.{statement}
+use Rattle.placement.proofs.place.scratch_needed.Tie as tie
 
 wide : (c : tie.Start) → c .args .pages * c .args .width ≤ 3 * 8192
 wide c = mul-le-mul (c .pre .0) (c .pre .1)

@@ -1,7 +1,7 @@
--- `tray::place::is_stride` meets its contract. Assumes nothing.
+-- `placement::place::is_stride` meets its contract. Assumes nothing.
 use borrow.Author.Tests.{lt-leb, le-leb}
-use Rattle.tray.proofs.place.is_stride.Statement.{statement}
-use Rattle.tray.proofs.place.is_stride.Tie as tie
+use Rattle.placement.proofs.place.is_stride.Statement.{statement}
+use Rattle.placement.proofs.place.is_stride.Tie as tie
 
 returns : tie.Need-returns
 returns c = rw (le-leb _ _ (c .if1 .taken))

@@ -6,8 +6,8 @@ ghost use mathlib.Core.Path.{_≡_};
 ghost use mathlib.Core.Bool.{_&&_};
 ghost use Prim.Native.Nat.{_-_, _*_, _<_, _≤_, _^_, max};
 ghost use lib.Dec.{leb, ltb};
-ghost use Rattle.tray.specs.Placement.{rowStart, sideAllowed, allowed, fits, longestSide, longestStride};
-ghost use Rattle.tray.specs.Placement.{sourcePage, outputPage, mostPages, scratchNeeded};
+ghost use Rattle.placement.specs.Placement.{rowStart, sideAllowed, allowed, fits, longestSide, longestStride};
+ghost use Rattle.placement.specs.Placement.{sourcePage, outputPage, mostPages, scratchNeeded};
 
 const LONGEST_SIDE: usize = 8192;
 

@@ -1,9 +1,9 @@
--- `tray::place::is_allowed` meets its contract. Assumes nothing.
+-- `placement::place::is_allowed` meets its contract. Assumes nothing.
 use borrow.Author.Needs.{needs}
-use Rattle.tray.specs.Placement.{allowed}
-use Rattle.tray.proofs.Decisions.{and-then, and-not}
-use Rattle.tray.proofs.place.is_allowed.Statement.{statement}
-use Rattle.tray.proofs.place.is_allowed.Tie as tie
+use Rattle.placement.specs.Placement.{allowed}
+use Rattle.placement.proofs.Decisions.{and-then, and-not}
+use Rattle.placement.proofs.place.is_allowed.Statement.{statement}
+use Rattle.placement.proofs.place.is_allowed.Tie as tie
 
 returns : tie.Need-returns
 unfolding allowed

@@ -1,8 +1,8 @@
--- `tray::place::is_side` meets its contract. Assumes nothing.
+-- `placement::place::is_side` meets its contract. Assumes nothing.
 use borrow.Author.Tests.{lt-leb, le-leb}
-use Rattle.tray.specs.Placement.{sideAllowed}
-use Rattle.tray.proofs.place.is_side.Statement.{statement}
-use Rattle.tray.proofs.place.is_side.Tie as tie
+use Rattle.placement.specs.Placement.{sideAllowed}
+use Rattle.placement.proofs.place.is_side.Statement.{statement}
+use Rattle.placement.proofs.place.is_side.Tie as tie
 
 returns : tie.Need-returns
 unfolding sideAllowed

@@ -7,8 +7,8 @@ use native.Mathlib.Nat.{div-lt-iff-lt-mul, mul-comm, zero-mul}
 use native.Mathlib.Omega.{arith}
 use lib.Dec.{leb, ltb}
 use borrow.Author.Tests.{ltb-true, leb-true, lt-ltb, le-ltb, le-leb, lt-leb}
-use Rattle.tray.specs.declared.Placement.{Placement}
-use Rattle.tray.specs.Placement.{fits}
+use Rattle.placement.specs.declared.Placement.{Placement}
+use Rattle.placement.specs.Placement.{fits}
 
 -- two tests that hold together are one
 pub same : (a b : Bool) → (a ≡ true → b ≡ true) → (b ≡ true → a ≡ true) → a ≡ b
@@ -50,13 +50,15 @@ module _ (p : Placement) (n steps : ℕ) (e : steps ≡ p .height - 1) where
       sym (lt-leb (p .offset + (p .height - 1) * p .stride + p .width) n (omega arith))
 
   pub fits-by :
-      steps * p .stride ≤ n → p .width ≤ n - steps * p .stride → leb (p .offset) (n - steps * p .stride - p .width) ≡ fits p n
+      steps * p .stride ≤ n → p .width ≤ n - steps * p .stride
+      → leb (p .offset) (n - steps * p .stride - p .width) ≡ fits p n
   unfolding fits
   fits-by h l =
       let down : (p .height - 1) * p .stride ≤ n = rw e at h in
       let left : p .width ≤ n - (p .height - 1) * p .stride = rw e at l in
       rw e
-      (same (leb (p .offset) (n - (p .height - 1) * p .stride - p .width)) (leb (p .offset + (p .height - 1) * p .stride + p .width) n)
+      (same (leb (p .offset) (n - (p .height - 1) * p .stride - p .width))
+      (leb (p .offset + (p .height - 1) * p .stride + p .width) n)
       (λ t.
       let le : p .offset ≤ n - (p .height - 1) * p .stride - p .width = leb-true _ _ t in
       le-leb (p .offset + (p .height - 1) * p .stride + p .width) n (omega arith))
