@@ -4,19 +4,23 @@
  * A page is placed in a tray of bytes by its offset, sides and stride: the pixel at column c, row r is
  * byte offset + r * stride + c. Source and output pages share their sides.
  *
- * Every ticket, placement and buffer length gets an answer; what each function answers and writes is
- * proved for all of them. Four things the library cannot see, and the caller must keep:
+ * Every ticket, placement and buffer length gets an answer; what each function of the library answers and
+ * writes is proved for all of them. Four things the library cannot see, and the caller must keep:
  *   - a buffer has as many bytes (or numbers) as its length says; a buffer of length 0 may be NULL;
  *   - the buffers of one call do not overlap, but for those that are only read: ticket and source, or file;
  *   - nobody else writes to a buffer, or reads one that is written, while a call runs;
  *   - a call needs 256 KiB of stack.
  * The caller owns every buffer before, during and after a call. Nothing is allocated or kept, there is
- * no state and no lock: threads may call at the same time with buffers of their own. */
+ * no state and no lock: threads may call at the same time with buffers of their own.
+ *
+ * The inline functions are this header's own, tested and not proved: they name a job's numbers, write a
+ * ticket's bytes and put refusals into sentences. Those whose names end in _ serve the others alone. */
 #ifndef SOTRUGLA_H
 #define SOTRUGLA_H
 
 #include <stddef.h>
 #include <stdint.h>
+#include <string.h>
 
 #define SOTRUGLA_VERSION "0.3.0"
 #define SOTRUGLA_VERSION_NUMBER 3000 /* 1000000 * major + 1000 * minor + patch */
@@ -82,6 +86,19 @@ struct sotrugla_outcome sotrugla_run(const uint8_t *ticket, size_t ticket_length
  * 0 where a side is not 1 to 8192: such a page is refused (10). */
 size_t sotrugla_scratch_needed(size_t width, size_t height);
 
+/* The operations and the lines that a ticket may name. */
+enum { SOTRUGLA_ERODE = 1, SOTRUGLA_DILATE = 2, SOTRUGLA_OPEN = 3, SOTRUGLA_CLOSE = 4 };
+enum { SOTRUGLA_CONNECTED = 1, SOTRUGLA_PERIODIC = 2 };
+
+/* The most boxes that a ticket may hide, and the bytes of the longest ticket: its first six fields always
+ * take the same bytes, and so does each box. */
+enum {
+    SOTRUGLA_BOXES = 64,
+    SOTRUGLA_FIELDS_BYTES_ = 30,
+    SOTRUGLA_BOX_BYTES_ = 11,
+    SOTRUGLA_TICKET_BYTES = SOTRUGLA_FIELDS_BYTES_ + SOTRUGLA_BOXES * SOTRUGLA_BOX_BYTES_
+};
+
 /* A ticket alone, as the numbers that sotrugla_read_ticket writes: 8 and then 4 for each of 64 box
  * places, zero past the ticket's boxes. */
 struct sotrugla_ticket {
@@ -89,7 +106,7 @@ struct sotrugla_ticket {
     int64_t count; /* of boxes */
     struct {
         int64_t left, top, width, height;
-    } boxes[64];
+    } boxes[SOTRUGLA_BOXES];
 };
 
 enum { SOTRUGLA_NUMBERS = sizeof(struct sotrugla_ticket) / sizeof(int64_t) };
@@ -114,6 +131,98 @@ static inline struct sotrugla_outcome sotrugla_read(const uint8_t *ticket, size_
  * whole ticket: who asks about every pixel of a large page does better to read the boxes once, by
  * sotrugla_read. */
 uint64_t sotrugla_is_hidden(const uint8_t *ticket, size_t ticket_length, size_t column, size_t row);
+
+/* A ticket to be put: without boxes, of phase 0, its origin the middle of the segment, step length / 2. */
+static inline struct sotrugla_ticket sotrugla_centred(int64_t operation, int64_t line, int64_t dx,
+                                                      int64_t dy, int64_t length)
+{
+    struct sotrugla_ticket ticket;
+    memset(&ticket, 0, sizeof ticket);
+    ticket.operation = operation, ticket.line = line;
+    ticket.dx = dx, ticket.dy = dy;
+    ticket.length = length, ticket.origin = length / 2;
+    return ticket;
+}
+
+/* Hides one more box: 1, or 0 where the ticket has no box place left. Such a ticket has a count above 64 from
+ * then on and is not put: a caller who does not look at the answer gets no page on which that box shows. */
+static inline int sotrugla_hide(struct sotrugla_ticket *ticket, int64_t left, int64_t top,
+                                int64_t width, int64_t height)
+{
+    if (ticket->count < 0 || ticket->count >= SOTRUGLA_BOXES) {
+        ticket->count = SOTRUGLA_BOXES + 1;
+        return 0;
+    }
+    ticket->boxes[ticket->count].left = left, ticket->boxes[ticket->count].top = top;
+    ticket->boxes[ticket->count].width = width, ticket->boxes[ticket->count].height = height;
+    ticket->count++;
+    return 1;
+}
+
+static inline int sotrugla_within_(int64_t number, int64_t least, int64_t most)
+{
+    return least <= number && number <= most;
+}
+
+/* Whether every number of the ticket has a place in its field, and every box a place in the struct. */
+static inline int sotrugla_has_places_(const struct sotrugla_ticket *ticket)
+{
+    int so = sotrugla_within_(ticket->operation, 0, UINT8_MAX) &&
+             sotrugla_within_(ticket->line, 0, UINT8_MAX) &&
+             sotrugla_within_(ticket->dx, INT16_MIN, INT16_MAX) &&
+             sotrugla_within_(ticket->dy, INT16_MIN, INT16_MAX) &&
+             sotrugla_within_(ticket->length, 0, UINT16_MAX) &&
+             sotrugla_within_(ticket->origin, 0, UINT16_MAX) &&
+             sotrugla_within_(ticket->phase, 0, UINT16_MAX) &&
+             sotrugla_within_(ticket->count, 0, SOTRUGLA_BOXES);
+    for (int64_t k = 0; so && k < ticket->count; k++)
+        so = sotrugla_within_(ticket->boxes[k].left, 0, UINT16_MAX) &&
+             sotrugla_within_(ticket->boxes[k].top, 0, UINT16_MAX) &&
+             sotrugla_within_(ticket->boxes[k].width, 0, UINT16_MAX) &&
+             sotrugla_within_(ticket->boxes[k].height, 0, UINT16_MAX);
+    return so;
+}
+
+/* Writes a field of numbers, each of one byte or of two, the higher first, and answers where it ends. */
+static inline uint8_t *sotrugla_put_field_(uint8_t *at, int tag, int size, const int64_t *numbers,
+                                           int count)
+{
+    *at++ = (uint8_t)tag;
+    *at++ = 0;
+    *at++ = (uint8_t)(size * count);
+    for (int k = 0; k < count; k++) {
+        if (size == 2)
+            *at++ = (uint8_t)((uint64_t)numbers[k] >> 8);
+        *at++ = (uint8_t)numbers[k];
+    }
+    return at;
+}
+
+/* Writes the ticket's bytes to the front of a buffer, as sotrugla_read gives them back, and answers how many.
+ * Whether the values are allowed is for the proved reader to say. Where the buffer is too short, a number has
+ * no place in its field, or count is not 0 to 64, the answer is 0 and nothing is written.
+ * SOTRUGLA_TICKET_BYTES are always enough. */
+static inline size_t sotrugla_put_ticket(const struct sotrugla_ticket *ticket, uint8_t *bytes,
+                                         size_t length)
+{
+    const int64_t vector[] = {ticket->dx, ticket->dy};
+    uint8_t *at = bytes;
+    if (!sotrugla_has_places_(ticket) ||
+        length < SOTRUGLA_FIELDS_BYTES_ + (size_t)ticket->count * SOTRUGLA_BOX_BYTES_)
+        return 0;
+    at = sotrugla_put_field_(at, 1, 1, &ticket->operation, 1);
+    at = sotrugla_put_field_(at, 2, 1, &ticket->line, 1);
+    at = sotrugla_put_field_(at, 3, 2, vector, 2);
+    at = sotrugla_put_field_(at, 4, 2, &ticket->length, 1);
+    at = sotrugla_put_field_(at, 5, 2, &ticket->origin, 1);
+    at = sotrugla_put_field_(at, 6, 2, &ticket->phase, 1);
+    for (int64_t k = 0; k < ticket->count; k++) {
+        const int64_t box[] = {ticket->boxes[k].left, ticket->boxes[k].top, ticket->boxes[k].width,
+                               ticket->boxes[k].height};
+        at = sotrugla_put_field_(at, 7, 2, box, 4);
+    }
+    return (size_t)(at - bytes);
+}
 
 /* A raw Netpbm grey file (P5) as it is read. refusal and place are as in struct sotrugla_outcome, and at a
  * refusal the other numbers are 0. The pixel at column c, row r is byte start + r * width + c of the file,
@@ -208,6 +317,63 @@ static inline const char *sotrugla_sentence(uint64_t refusal)
     if (refusal == SOTRUGLA_NUMBERS_TOO_FEW)
         return "the buffer of numbers is too short";
     return refusal < sizeof sentences / sizeof *sentences ? sentences[refusal] : "unknown refusal";
+}
+
+/* The three functions below are sotrugla_sentence for an answer to what they are handed, but say which rule
+ * of a vector (6), or which number of a placement (10), is at fault. Each sentence stands whole on one line,
+ * so that a search finds it. */
+
+/* A component of the vector: two bytes, the higher first, in two's complement. */
+static inline int sotrugla_component_(const uint8_t *bytes)
+{
+    return (bytes[0] ^ 128) * 256 + bytes[1] - 32768;
+}
+
+/* For a vector that the proved reader refused: so the last rule is broken if no other is. */
+static inline const char *sotrugla_vector_sentence_(int dx, int dy)
+{
+    int dx_size = dx < 0 ? -dx : dx, dy_size = dy < 0 ? -dy : dy;
+    if (dx == 0 && dy == 0)
+        return "the vector is 0, 0 and has no direction";
+    if (dx_size > 255 || dy_size > 255)
+        return "a component of the vector is beyond -255 to 255";
+    if (dx < dy_size && dy <= dx_size)
+        return "the vector is neither shallow (dx at least the size of dy) nor steep (dy above the size of dx)";
+    return "dx and dy of a connected line have a common divisor above 1";
+}
+
+/* For sotrugla_read_ticket and sotrugla_read. A ticket that is refused for its vector has at least the 15
+ * bytes through its vector's end. */
+static inline const char *sotrugla_ticket_sentence(uint64_t refusal, const uint8_t *ticket,
+                                                   size_t ticket_length)
+{
+    if (refusal == SOTRUGLA_BAD_VECTOR && ticket_length >= 15)
+        return sotrugla_vector_sentence_(sotrugla_component_(ticket + 11),
+                                         sotrugla_component_(ticket + 13));
+    return sotrugla_sentence(refusal);
+}
+
+/* For sotrugla_run_job, and for sotrugla_run by a job of its numbers. */
+static inline const char *sotrugla_job_sentence(uint64_t refusal, const struct sotrugla_job *job)
+{
+    if (refusal != SOTRUGLA_BAD_SIDES)
+        return sotrugla_ticket_sentence(refusal, job->ticket, job->ticket_length);
+    if (job->width < 1 || job->width > 8192)
+        return "the width is not 1 to 8192";
+    if (job->height < 1 || job->height > 8192)
+        return "the height is not 1 to 8192";
+    if (job->source_stride < job->width || job->source_stride > 16384)
+        return "the source stride is not from the width to 16384";
+    return "the output stride is not from the width to 16384";
+}
+
+/* For sotrugla_run_pgm, and with NULL and 0 for sotrugla_read_pgm. */
+static inline const char *sotrugla_file_sentence(uint64_t refusal, const uint8_t *ticket,
+                                                 size_t ticket_length)
+{
+    if (refusal == SOTRUGLA_BAD_SIDES)
+        return "a side of the file's page is not 1 to 8192";
+    return sotrugla_ticket_sentence(refusal, ticket, ticket_length);
 }
 
 #ifdef __cplusplus

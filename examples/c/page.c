@@ -104,7 +104,7 @@ static void print(const struct sotrugla_job *job, struct sotrugla_outcome answer
 {
     if (answer.refusal) {
         printf("refused %" PRIu64 " at %" PRIu64 "\n", answer.refusal, answer.place);
-        fprintf(stderr, "%s\n", sotrugla_sentence(answer.refusal));
+        fprintf(stderr, "%s\n", sotrugla_job_sentence(answer.refusal, job));
         return;
     }
     see_white(job);

@@ -7,16 +7,6 @@
 
 #include "sotrugla.h"
 
-static const uint8_t TICKET[] = {
-    1, 0, 1, 4,                      /* close */
-    2, 0, 1, 1,                      /* along connected lines */
-    3, 0, 4, 0, 1, 0, 0,             /* in the direction (1, 0) */
-    4, 0, 2, 0, 5,                   /* with a segment of 5 pixels */
-    5, 0, 2, 0, 2,                   /* and its origin in the middle, */
-    6, 0, 2, 0, 0,                   /* phase 0; */
-    7, 0, 8, 0, 6, 0, 3, 0, 2, 0, 1, /* hide two pixels, from column 6 of row 3 on */
-};
-
 struct buffer {
     uint8_t *bytes;
     size_t length;
@@ -51,19 +41,29 @@ static struct buffer taken(void)
     return file;
 }
 
+/* Close along rows with a segment of 5 pixels; hide two pixels, from column 6 of row 3 on. */
+static size_t put_ticket(uint8_t *bytes, size_t length)
+{
+    struct sotrugla_ticket ticket = sotrugla_centred(SOTRUGLA_CLOSE, SOTRUGLA_CONNECTED, 1, 0, 5);
+    sotrugla_hide(&ticket, 6, 3, 2, 1);
+    return sotrugla_put_ticket(&ticket, bytes, length);
+}
+
 int main(void)
 {
+    uint8_t ticket[SOTRUGLA_TICKET_BYTES];
+    size_t ticket_length = put_ticket(ticket, sizeof ticket);
     struct buffer file = taken(), output = {0}, scratch = {0};
     struct sotrugla_pgm shown = sotrugla_read_pgm(file.bytes, file.length);
     resize(&output, SOTRUGLA_PGM_HEADER + shown.width * shown.height);
     resize(&scratch, sotrugla_scratch_needed(shown.width, shown.height));
 
     struct sotrugla_written answer =
-        sotrugla_run_pgm(TICKET, sizeof TICKET, file.bytes, file.length, output.bytes,
+        sotrugla_run_pgm(ticket, ticket_length, file.bytes, file.length, output.bytes,
                          output.length, scratch.bytes, scratch.length);
     if (answer.refusal)
         fprintf(stderr, "refused %" PRIu64 " at %" PRIu64 ": %s\n", answer.refusal, answer.place,
-                sotrugla_sentence(answer.refusal));
+                sotrugla_file_sentence(answer.refusal, ticket, ticket_length));
     else if (fwrite(output.bytes, 1, answer.length, stdout) != answer.length || fflush(stdout))
         fail("bad output");
     free(file.bytes), free(output.bytes), free(scratch.bytes);
