@@ -37,7 +37,7 @@ fn print(answer: Result<u64, Refused>, page: Page, output: &[u8]) {
     match answer {
         Err(refused) => {
             println!("refused {} at {}", refused.refusal.number(), refused.place);
-            eprintln!("{}", refused.refusal.sentence());
+            eprintln!("{}", refused.sentence);
         }
         Ok(work) => {
             println!("done {work}");

@@ -2,22 +2,20 @@
 //! standard input, the closed page as another such file standard output. A refusal goes to standard error
 //! as its number, place and sentence, and the exit status is then 1.
 
-use sotrugla::{filter_pgm, HiddenBox, Line, Operation, Ticket};
+use sotrugla::{filter_pgm, HiddenBox, Line, Refused, Ticket};
 use std::io::{self, Read, Write};
 use std::process::ExitCode;
 
 fn main() -> io::Result<ExitCode> {
-    let ticket = Ticket::new(Operation::Close, Line::connected(1, 0), 5)
-        .origin(2)
+    let ticket = Ticket::closing(Line::connected(1, 0), 5)
         .hide(HiddenBox { left: 6, top: 3, width: 2, height: 1 })
         .encode();
     let mut file = Vec::new();
     io::stdin().read_to_end(&mut file)?;
     match filter_pgm(&ticket, &file) {
         Ok(written) => io::stdout().write_all(&written.file)?,
-        Err(refused) => {
-            let (refusal, place) = (refused.refusal, refused.place);
-            eprintln!("refused {} at {place}: {}", refusal.number(), refusal.sentence());
+        Err(Refused { refusal, place, sentence }) => {
+            eprintln!("refused {} at {place}: {sentence}", refusal.number());
             return Ok(ExitCode::FAILURE);
         }
     }

@@ -21,6 +21,35 @@
 //!
 //! A page that arrives as a raw Netpbm grey file (P5) leaves as one: [`filter_pgm`] takes the file's
 //! bytes and gives those of another.
+//!
+//! # From another crate
+//!
+//! Sotrugla's `./build` comes first: it writes the library that this crate links. Then, in `Cargo.toml`,
+//!
+//! ```toml
+//! [dependencies]
+//! sotrugla = { path = "../sotrugla/host" }
+//! ```
+//!
+//! A library that stands elsewhere, as by `./build --prefix DIR`, is named by the environment:
+//! `SOTRUGLA_DIST=DIR`, a whole path from `/`. It must be of this crate's version.
+//!
+//! # Threads
+//!
+//! Threads may call at the same time. A call takes some 160,000 bytes of stack, so give a thread 256 KiB:
+//! the 2 MiB that Rust gives one are enough.
+//!
+//! ```
+//! use sotrugla::{filter_pgm, Line, Ticket};
+//!
+//! let small = std::thread::Builder::new().stack_size(256 * 1024);
+//! let cleaned = small.spawn(|| {
+//!     let ticket = Ticket::opening(Line::connected(1, 0), 2).encode();
+//!     filter_pgm(&ticket, b"P5 3 1 9\n\x09\x01\x05")
+//! })?;
+//! assert_eq!(cleaned.join().unwrap().unwrap().file, b"P5\n3\n1\n9\n\x09\x01\x01");
+//! # Ok::<(), std::io::Error>(())
+//! ```
 
 mod library;
 mod page;
@@ -32,3 +61,17 @@ pub use page::{filter, Page, Spot};
 pub use pgm::{filter_pgm, read_pgm, Pgm, Written};
 pub use refusal::{Refusal, Refused};
 pub use ticket::{HiddenBox, Line, Operation, Ticket, TicketBytes};
+
+/// The version of this crate, which is that of the library it was built with.
+pub const VERSION: &str = env!("CARGO_PKG_VERSION");
+
+/// The version of the library that runs, as a number: 1000000 * major + 1000 * minor + patch.
+///
+/// ```
+/// let numbers: Vec<u64> = sotrugla::VERSION.split('.').map(|word| word.parse().unwrap()).collect();
+/// assert_eq!(sotrugla::version(), 1000000 * numbers[0] + 1000 * numbers[1] + numbers[2]);
+/// ```
+pub fn version() -> u64 {
+    // SAFETY: the function takes nothing and touches no memory of ours.
+    unsafe { library::sotrugla_version() }
+}

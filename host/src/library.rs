@@ -32,6 +32,8 @@ pub const PGM_HEADER: usize = 17;
 pub const NUMBERS: usize = 8 + 4 * 64;
 
 extern "C" {
+    pub fn sotrugla_version() -> u64;
+
     pub fn sotrugla_run(
         ticket: *const u8,
         ticket_length: usize,

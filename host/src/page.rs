@@ -93,6 +93,7 @@ pub fn filter(
             scratch.len(),
         )
     };
-    judged(outcome.refusal, outcome.place)?;
+    judged(outcome.refusal, outcome.place)
+        .map_err(|refused| refused.of_ticket(ticket).of_page(page))?;
     Ok(outcome.work)
 }

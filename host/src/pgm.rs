@@ -39,7 +39,7 @@ pub struct Written {
 /// ```
 pub fn read_pgm(file: &[u8]) -> Result<Pgm, Refused> {
     let answer = answered(file);
-    judged(answer.refusal, answer.place)?;
+    judged(answer.refusal, answer.place).map_err(Refused::of_file)?;
     let Page { width, height, .. } = page_of(&answer);
     // A file that is read has a maximum of one byte, and its pixels start within it.
     Ok(Pgm { width, height, maximum: answer.maximum as u8, start: answer.start as usize })
@@ -87,7 +87,7 @@ pub fn filter_pgm(ticket: &TicketBytes, file: &[u8]) -> Result<Written, Refused>
             scratch.len(),
         )
     };
-    judged(answer.refusal, answer.place)?;
+    judged(answer.refusal, answer.place).map_err(|refused| refused.of_ticket(ticket).of_file())?;
     output.truncate(answer.length as usize);
     Ok(Written { file: output, work: answer.work })
 }

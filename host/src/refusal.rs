@@ -1,5 +1,6 @@
 //! The refusals, each with a sentence for an operator.
 
+use crate::page::Page;
 use std::error::Error;
 use std::fmt;
 
@@ -65,9 +66,40 @@ impl Refusal {
         self as u64
     }
 
-    /// The refusal in a sentence for an operator.
+    /// The refusal in a sentence for an operator. That of a [`Refused`] may say more.
     pub fn sentence(self) -> &'static str {
         numbered(self.number()).expect("every refusal has a sentence").1
+    }
+}
+
+/// Which rule is broken by a vector that the proved reader refused: so it is the last if it is no other.
+/// Each sentence stands whole on one line, so that a search finds it.
+fn vector_sentence(dx: i16, dy: i16) -> &'static str {
+    // Sizes in more bits: that of -32768 has no place in sixteen.
+    let (dx, dy) = (i32::from(dx), i32::from(dy));
+    let (dx_size, dy_size) = (dx.abs(), dy.abs());
+    if (dx, dy) == (0, 0) {
+        "the vector is 0, 0 and has no direction"
+    } else if dx_size > 255 || dy_size > 255 {
+        "a component of the vector is beyond -255 to 255"
+    } else if dx < dy_size && dy <= dx_size {
+        "the vector is neither shallow (dx at least the size of dy) nor steep (dy above the size of dx)"
+    } else {
+        "dx and dy of a connected line have a common divisor above 1"
+    }
+}
+
+/// Which number is at fault in placements that the library refused: so it is the output's if it is none of
+/// the source's.
+fn placement_sentence(page: Page) -> &'static str {
+    if !(1..=8192).contains(&page.width) {
+        "the width is not 1 to 8192"
+    } else if !(1..=8192).contains(&page.height) {
+        "the height is not 1 to 8192"
+    } else if !(page.width..=16384).contains(&page.stride) {
+        "the source stride is not from the width to 16384"
+    } else {
+        "the output stride is not from the width to 16384"
     }
 }
 
@@ -78,22 +110,47 @@ impl Refusal {
 pub struct Refused {
     pub refusal: Refusal,
     pub place: u64,
+    /// For an operator: [`Refusal::sentence`], or one that says which rule a vector breaks (6), or which
+    /// number of a placement or file is at fault (10).
+    pub sentence: &'static str,
+}
+
+impl Refused {
+    /// As an answer to these bytes, which reach through the vector where that is refused.
+    pub(crate) fn of_ticket(mut self, ticket: &[u8]) -> Refused {
+        if self.refusal == BadVector {
+            let component = |at| i16::from_be_bytes([ticket[at], ticket[at + 1]]);
+            self.sentence = vector_sentence(component(11), component(13));
+        }
+        self
+    }
+
+    /// As an answer to this page of the source; the output page shares its sides.
+    pub(crate) fn of_page(mut self, page: Page) -> Refused {
+        if self.refusal == BadSides {
+            self.sentence = placement_sentence(page);
+        }
+        self
+    }
+
+    /// As an answer to a file.
+    pub(crate) fn of_file(mut self) -> Refused {
+        if self.refusal == BadSides {
+            self.sentence = "a side of the file's page is not 1 to 8192";
+        }
+        self
+    }
 }
 
 impl fmt::Display for Refused {
     fn fmt(&self, f: &mut fmt::Formatter) -> fmt::Result {
-        write!(
-            f,
-            "refused {} at {}: {}",
-            self.refusal.number(),
-            self.place,
-            self.refusal.sentence()
-        )?;
-        match self.refusal.number() {
-            1..=9 => write!(f, " (the field at byte {} of the ticket)", self.place),
-            14 => write!(f, " (box {}, counted from 0)", self.place),
-            15..=17 => write!(f, " (byte {} of the file, counted from 0, or its end)", self.place),
-            100 => write!(f, " (it needs {} numbers)", self.place),
+        let (number, place) = (self.refusal.number(), self.place);
+        write!(f, "refused {number} at {place}: {}", self.sentence)?;
+        match number {
+            1..=9 => write!(f, " (the field at byte {place} of the ticket)"),
+            14 => write!(f, " (box {place}, counted from 0)"),
+            15..=17 => write!(f, " (byte {place} of the file, counted from 0, or its end)"),
+            100 => write!(f, " (it needs {place} numbers)"),
             _ => Ok(()),
         }
     }
@@ -101,13 +158,13 @@ impl fmt::Display for Refused {
 
 impl Error for Refused {}
 
-/// An answer's refusal and place: nothing, where it is finished.
+/// An answer's refusal and place, with the sentence of its number: nothing, where it is finished.
 pub fn judged(refusal: u64, place: u64) -> Result<(), Refused> {
     if refusal == 0 {
         return Ok(());
     }
-    let (refusal, _) = numbered(refusal).expect("the library answers known refusals alone");
-    Err(Refused { refusal, place })
+    let (refusal, sentence) = numbered(refusal).expect("the library answers known refusals alone");
+    Err(Refused { refusal, place, sentence })
 }
 
 #[cfg(test)]
@@ -125,7 +182,7 @@ mod tests {
     #[test]
     fn a_short_buffer_says_how_many_numbers_it_needs() {
         let refused = judged(100, 264).unwrap_err();
-        assert_eq!(refused, Refused { refusal: NumbersTooFew, place: 264 });
+        assert_eq!((refused.refusal, refused.place), (NumbersTooFew, 264));
         assert_eq!(
             refused.to_string(),
             "refused 100 at 264: the buffer of numbers is too short (it needs 264 numbers)"

@@ -56,14 +56,14 @@ pub struct HiddenBox {
     pub height: u16,
 }
 
-/// A ticket to be encoded.
+/// A ticket to be encoded, or as read. The middle of a segment is its step `length / 2`.
 ///
 /// ```
 /// use sotrugla::{HiddenBox, Line, Operation, Ticket};
 ///
-/// let ticket = Ticket::new(Operation::Close, Line::connected(1, 0), 5)
-///     .origin(2)
+/// let ticket = Ticket::closing(Line::connected(1, 0), 5)
 ///     .hide(HiddenBox { left: 6, top: 3, width: 2, height: 1 });
+/// assert_eq!((ticket.operation(), ticket.origin()), (Operation::Close, 2));
 /// assert_eq!(ticket.encode().as_bytes().len(), 30 + 11);
 /// ```
 #[derive(Clone, Debug, PartialEq, Eq)]
@@ -81,8 +81,32 @@ impl Ticket {
         Ticket { operation, line, length, origin: 0, boxes: Vec::new() }
     }
 
-    /// The origin's step in the segment, below its length.
-    pub fn origin(mut self, origin: u16) -> Ticket {
+    /// An erosion with the origin in the middle of its segment.
+    pub fn erosion(line: Line, length: u16) -> Ticket {
+        Ticket::centred(Operation::Erode, line, length)
+    }
+
+    /// A dilation with the origin in the middle of its segment.
+    pub fn dilation(line: Line, length: u16) -> Ticket {
+        Ticket::centred(Operation::Dilate, line, length)
+    }
+
+    /// An opening with the origin in the middle of its segment.
+    pub fn opening(line: Line, length: u16) -> Ticket {
+        Ticket::centred(Operation::Open, line, length)
+    }
+
+    /// A closing with the origin in the middle of its segment.
+    pub fn closing(line: Line, length: u16) -> Ticket {
+        Ticket::centred(Operation::Close, line, length)
+    }
+
+    fn centred(operation: Operation, line: Line, length: u16) -> Ticket {
+        Ticket::new(operation, line, length).with_origin(length / 2)
+    }
+
+    /// With the origin at another step of the segment, below its length.
+    pub fn with_origin(mut self, origin: u16) -> Ticket {
         self.origin = origin;
         self
     }
@@ -91,6 +115,29 @@ impl Ticket {
     pub fn hide(mut self, hidden: HiddenBox) -> Ticket {
         self.boxes.push(hidden);
         self
+    }
+
+    pub fn operation(&self) -> Operation {
+        self.operation
+    }
+
+    pub fn line(&self) -> Line {
+        self.line
+    }
+
+    /// The steps of the segment.
+    pub fn length(&self) -> u16 {
+        self.length
+    }
+
+    /// The origin's step in the segment.
+    pub fn origin(&self) -> u16 {
+        self.origin
+    }
+
+    /// The hidden boxes, in the ticket's order.
+    pub fn boxes(&self) -> &[HiddenBox] {
+        &self.boxes
     }
 
     /// The ticket's bytes. Whether its values are allowed is for the proved reader to say.
@@ -134,7 +181,7 @@ impl TicketBytes {
     /// ```
     /// use sotrugla::{Line, Operation, Refusal, Ticket, TicketBytes};
     ///
-    /// let ticket = Ticket::new(Operation::Erode, Line::connected(3, -2), 7).origin(3);
+    /// let ticket = Ticket::new(Operation::Erode, Line::connected(3, -2), 7).with_origin(3);
     /// assert_eq!(ticket.encode().read(), Ok(ticket));
     /// assert_eq!(TicketBytes::from(vec![1, 0]).read().unwrap_err().refusal, Refusal::TicketEnds);
     /// ```
@@ -145,7 +192,7 @@ impl TicketBytes {
             let (ticket, length) = (self.0.as_ptr(), self.0.len());
             library::sotrugla_read_ticket(ticket, length, numbers.as_mut_ptr(), numbers.len())
         };
-        judged(outcome.refusal, outcome.place)?;
+        judged(outcome.refusal, outcome.place).map_err(|refused| refused.of_ticket(&self.0))?;
         Ok(shown(&numbers))
     }
 

@@ -79,7 +79,7 @@ fn each_ticket_refusal_has_its_place() {
     assert_eq!(of(&line(Line::connected(2, 2))), (Refusal::BadVector, 8));
     assert_eq!(of(&line(Line::Connected { dx: 2, dy: -1, phase: 2 })), (Refusal::BadPhase, 25));
     assert_eq!(of(&with(19, 0)), (Refusal::BadLength, 15));
-    assert_eq!(of(&ticket().origin(2).encode()), (Refusal::BadOrigin, 20));
+    assert_eq!(of(&ticket().with_origin(2).encode()), (Refusal::BadOrigin, 20));
 }
 
 #[test]
@@ -96,6 +96,7 @@ fn each_page_refusal_has_its_place() {
 
 /// That this compiles is the test: the last arm can be reached, as more refusals may come.
 #[deny(unreachable_patterns)]
+#[allow(clippy::match_like_matches_macro)]
 fn is_of_today(refusal: Refusal) -> bool {
     use Refusal::*;
     match refusal {
@@ -110,30 +111,4 @@ fn is_of_today(refusal: Refusal) -> bool {
 #[test]
 fn a_match_leaves_room_for_later_refusals() {
     assert!(is_of_today(Refusal::NumbersTooFew));
-}
-
-#[test]
-fn a_ticket_reads_back_as_it_was_built() {
-    let full = (0..64)
-        .fold(ticket(), |t, k| t.hide(HiddenBox { left: k, top: 1, width: 2, height: 65535 }));
-    let steep = Line::Connected { dx: -2, dy: 5, phase: 4 };
-    for ticket in [
-        full,
-        Ticket::new(Operation::Erode, Line::periodic(255, -255), 8192).origin(8191),
-        Ticket::new(Operation::Dilate, steep, 1),
-        Ticket::new(Operation::Close, Line::connected(0, 1), 300).origin(299),
-    ] {
-        assert_eq!(ticket.encode().read(), Ok(ticket));
-    }
-}
-
-#[test]
-fn a_refusal_reads_as_a_sentence_with_its_place() {
-    let page = Page::alone(3, 1);
-    let ticket = Ticket::new(Operation::Open, Line::periodic(2, 2), 8193).encode();
-    let refused = filter(&ticket, page, &ROW, page.spot(), &mut [0; 3], &mut [0; 15]).unwrap_err();
-    assert_eq!(
-        refused.to_string(),
-        "refused 7 at 15: the segment length is 0 or above 8192 (the field at byte 15 of the ticket)"
-    );
 }
