@@ -10,8 +10,7 @@ import sotrugla
 
 
 def main():
-    ticket = sotrugla.Ticket(sotrugla.CLOSE, sotrugla.CONNECTED, dx=1, dy=0, length=5, origin=2)
-    ticket.hide(left=6, top=3, width=2, height=1)
+    ticket = sotrugla.Ticket.closing(along=(1, 0), length=5, hide=[(6, 3, 2, 1)])
     try:
         written = sotrugla.run_pgm(ticket, sys.stdin.buffer.read())
     except sotrugla.Refused as refused:

@@ -1,9 +1,12 @@
-"""P5 files through the module: what is written, each refusal of a file, and the exported functions themselves."""
+"""P5 files: what is written, each refusal of a file, and the exported functions themselves."""
 
 import unittest
 
 import sotrugla
-from sotrugla import CLOSE, CONNECTED, OPEN, Page, Pgm, Refused, Spot, Ticket
+from sotrugla import CLOSE, CONNECTED, OPEN, Page, Pgm, Refused, Spot, Ticket, library
+from sotrugla.lending import lent_to_write
+
+from .jobs import greys
 
 SIDES = (13, 7)
 ROW = b"P5\n3\n1\n9\n\x01\x02\x03"
@@ -23,11 +26,6 @@ def file_of(width, height, maximum, pixels):
     return b"P5\n%d\n%d\n%d\n" % (width, height, maximum) + pixels
 
 
-def pixels_of(width, height, maximum):
-    """Every grey up to the maximum, in no order."""
-    return bytes(at * at * 31 % 257 % (maximum + 1) for at in range(width * height))
-
-
 def filtered(ticket, pixels, sides=SIDES):
     """The pixels and the work that a job on a tray gives."""
     width, height = sides
@@ -38,14 +36,14 @@ def filtered(ticket, pixels, sides=SIDES):
 
 class Files(unittest.TestCase):
     def test_page_of_the_job_on_its_pixels(self):
-        pixels = pixels_of(*SIDES, 255)
+        pixels = greys(*SIDES, 255)
         page, work = filtered(hiding(), pixels)
         self.assertEqual(
             sotrugla.run_pgm(hiding(), file_of(*SIDES, 255, pixels)), (file_of(*SIDES, 255, page), work)
         )
 
     def test_hidden_pixels_come_out_as_the_maximum(self):
-        pixels = pixels_of(*SIDES, 100)
+        pixels = greys(*SIDES, 100)
         page, work = filtered(hiding(), pixels)
         self.assertEqual(page.count(255), 12)
         written = sotrugla.run_pgm(hiding().encode(), file_of(*SIDES, 100, pixels))
@@ -53,7 +51,7 @@ class Files(unittest.TestCase):
 
     def test_read_back(self):
         for width, height, maximum in ((1, 1, 1), (13, 7, 255), (8192, 1, 9), (1, 8192, 100)):
-            file = file_of(width, height, maximum, pixels_of(width, height, maximum))
+            file = file_of(width, height, maximum, greys(width, height, maximum))
             start = len(file) - width * height
             self.assertEqual(sotrugla.read_pgm(file), Pgm(width, height, maximum, start))
             self.assertEqual(sotrugla.run_pgm(UNCHANGED, file).file, file)
@@ -67,13 +65,10 @@ class Files(unittest.TestCase):
         for file in (ROW, odd, ROW.replace(b"\n", b"\r") + b"P5 not an image"):
             self.assertEqual(sotrugla.run_pgm(UNCHANGED, file).file, ROW)
 
-    def test_buffers_of_every_kind(self):
-        for file in (bytearray(ROW), memoryview(b"P" + ROW)[1:]):
-            written = sotrugla.run_pgm(memoryview(UNCHANGED.encode()), file).file
-            self.assertEqual((type(written), written), (bytes, ROW))
-            self.assertEqual(sotrugla.read_pgm(file).start, 9)
-        with self.assertRaises(TypeError):
-            sotrugla.run_pgm(UNCHANGED, "P5")
+    def test_part_of_a_buffer(self):
+        file = memoryview(bytearray(b"P" + ROW))[1:]
+        written = sotrugla.run_pgm(UNCHANGED, file).file
+        self.assertEqual((type(written), written), (bytes, ROW))
 
 
 class Refusals(unittest.TestCase):
@@ -109,7 +104,7 @@ class Refusals(unittest.TestCase):
             self.assertEqual(self.refused(UNCHANGED, ROW[:length]), wanted)
 
     def test_order(self):
-        good = file_of(*SIDES, 9, pixels_of(*SIDES, 9))
+        good = file_of(*SIDES, 9, greys(*SIDES, 9))
         past = hiding().hide(left=12, top=2, width=2, height=1)
         self.assertEqual(self.refused(b"", b"P5"), (1, 0))
         self.assertEqual(self.refused(b"", good), (1, 0))
@@ -121,25 +116,20 @@ class Refusals(unittest.TestCase):
         self.assertTrue(sotrugla.is_hidden(hiding(), column=5, row=2))
         self.assertEqual(self.refused(hiding(), file), (17, 10 + 2 * 13 + 5))
 
-    def test_sentence_with_place(self):
-        words = r"^refused 16 at 7: .* \(byte 7 of the file, counted from 0, or its end\)$"
-        with self.assertRaisesRegex(Refused, words):
-            sotrugla.read_pgm(b"P5 3 1 256\n")
-
 
 class Buffers(unittest.TestCase):
     """The exported functions themselves: what they answer, and what is left in output and scratch."""
 
     def run_on(self, output_length, scratch_length):
         ticket, output, scratch = UNCHANGED.encode(), bytearray([7] * output_length), bytearray([8] * scratch_length)
-        with sotrugla._lent(output, True) as out, sotrugla._lent(scratch, True) as kept:
-            answer = sotrugla._library.sotrugla_run_pgm(ticket, len(ticket), ROW, len(ROW), *out, *kept)
+        with lent_to_write(output, "the output") as out, lent_to_write(scratch, "the scratch") as kept:
+            answer = library.answer("sotrugla_run_pgm", ticket, len(ticket), ROW, len(ROW), *out, *kept)
         return (answer.refusal, answer.place, answer.work, answer.length), bytes(output), bytes(scratch)
 
     def test_numbers_of_a_reading(self):
         cases = [(ROW, (0, 0, 3, 1, 9, 9)), (b"P5 3 1 256 ", (16, 7, 0, 0, 0, 0)), (b"P5 0 7 9 ", (10, 0, 0, 0, 0, 0))]
         for file, wanted in cases:
-            shown = sotrugla._library.sotrugla_read_pgm(file, len(file))
+            shown = library.answer("sotrugla_read_pgm", file, len(file))
             self.assertEqual(tuple(getattr(shown, name) for name, _ in shown._fields_), wanted)
 
     def test_short_ones(self):
@@ -151,7 +141,3 @@ class Buffers(unittest.TestCase):
         _, work = filtered(UNCHANGED, ROW[9:], (3, 1))
         wanted = (0, 0, work, len(ROW)), ROW + b"\7\7", bytes(15) + b"\x08"
         self.assertEqual(self.run_on(14, 16), wanted)
-
-
-if __name__ == "__main__":
-    unittest.main()
