@@ -1,0 +1,94 @@
+"""The command `sotrugla`: pages from files to files, as options or a ready ticket order."""
+
+from __future__ import annotations
+
+import argparse
+import contextlib
+import os
+import signal
+import sys
+import threading
+from typing import Iterator, Optional, Sequence
+
+import sotrugla
+
+from . import arguments, batch, files, order, outputs, show
+from .faults import Fault, Misused, reason
+
+FINISHED, NOT_FINISHED, WRONG_USE, INTERRUPTED, TERMINATED = 0, 1, 2, 130, 143
+
+
+def main(argv: Optional[Sequence[str]] = None) -> int:
+    """Runs the command and answers its exit status."""
+    if sys.stderr is None:  # It is closed, and print would write to standard output in its place.
+        sys.stderr = open(os.devnull, "w")
+    try:
+        with _terminated_as_interrupted():
+            status = _run(sys.argv[1:] if argv is None else argv)
+        if sys.stdout:
+            sys.stdout.flush()
+        return status
+    except KeyboardInterrupt:
+        return INTERRUPTED
+    except BrokenPipeError:
+        # Nobody reads standard output any more. Python would try once more at its exit, and complain.
+        os.dup2(os.open(os.devnull, os.O_WRONLY), 1)
+        return NOT_FINISHED
+
+
+@contextlib.contextmanager
+def _terminated_as_interrupted() -> Iterator[None]:
+    """A termination leaves no parts of pages either. Python lets the main thread alone see to it."""
+    if threading.current_thread() is not threading.main_thread():
+        yield
+        return
+    before = signal.signal(signal.SIGTERM, lambda *_: sys.exit(TERMINATED))
+    try:
+        yield
+    finally:
+        signal.signal(signal.SIGTERM, before)
+
+
+def _run(words: Sequence[str]) -> int:
+    try:
+        options = arguments.parse(words)
+        return _show(options) if options.word == "show" else _clean(options)
+    except SystemExit as end:  # argparse has said its help, its version or a usage error; or it is terminated.
+        return int(end.code or FINISHED)
+    except Fault as fault:
+        print(fault, file=sys.stderr)
+        return NOT_FINISHED
+
+
+def _show(options: argparse.Namespace) -> int:
+    _write(files.STANDARD, show.in_words(order.read_ticket(options.ticket)).encode())
+    return FINISHED
+
+
+def _clean(options: argparse.Namespace) -> int:
+    ready = [] if options.ticket is None else [options.ticket]
+    copies = [] if options.write_ticket is None else [options.write_ticket]
+    try:
+        routes = outputs.routes(options.pages, options.out)
+        outputs.see_apart(options.pages + ready, [route.output for route in routes] + copies)
+        ticket = order.ticket_of(options)
+    except Misused as misused:
+        options.error(str(misused))
+    except sotrugla.Refused as refused:
+        print(refused, file=sys.stderr)
+        return WRONG_USE
+    if options.along is not None and options.along.note:
+        print(options.along.note, file=sys.stderr)
+    outputs.make_folder(options.out, routes)
+    for name in copies:
+        _write(name, ticket)
+    return NOT_FINISHED if batch.clean_all(routes, ticket, options.jobs) else FINISHED
+
+
+def _write(name: str, content: bytes) -> None:
+    try:
+        files.write(name, content)
+    except BrokenPipeError:
+        raise
+    except OSError as error:
+        raise Fault(name, f"cannot be written: {reason(error)}") from error

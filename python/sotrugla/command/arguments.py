@@ -1,0 +1,145 @@
+"""The words and options of the command, and its help, which fits a screen of 80 columns by 24 lines."""
+
+from __future__ import annotations
+
+import argparse
+import functools
+import os
+import re
+from typing import Any, Dict, List, Sequence, Union
+
+import sotrugla
+
+from .along import Along, along
+from .words import WORDS, Word
+
+_USAGE = "sotrugla {} IN.. -o OUT --along DX,DY --length L ..."
+
+_EXAMPLES = """
+examples:
+  sotrugla {0} scan.pgm -o clean.pgm --along 1,0 --length 5
+  sotrugla {0} *.pgm -o clean/ --along 31deg --length 51 --hide 60,30,200,40
+"""
+
+_FOOT = """
+Pages are P5 files; with Pillow also PNG, TIFF and BMP, and JPEG to be read.
+Exit status: 0 all pages are finished, 1 some are not, 2 a wrong use.
+"""
+
+# The options whose values are numbers.
+_NUMBERS = ("--along", "--length", "--origin", "--phase", "--hide", "--jobs")
+
+_LAYOUT = functools.partial(argparse.RawDescriptionHelpFormatter, max_help_position=23)
+_SHARED: Dict[str, Any] = {"add_help": False, "allow_abbrev": False, "formatter_class": _LAYOUT}
+
+
+def parse(words: Sequence[str]) -> argparse.Namespace:
+    """The options. Their `error` says a usage error and ends the command, by SystemExit as argparse has it."""
+    return _parser().parse_args(_joined(words))
+
+
+def _joined(words: Sequence[str]) -> List[str]:
+    """argparse takes a value like -1,2 for an option, unless it is joined to its own."""
+    joined: List[str] = []
+    for word in words:
+        if joined and joined[-1] in _NUMBERS and re.match("-[0-9]", word):
+            joined[-1] += "=" + word
+        else:
+            joined.append(word)
+    return joined
+
+
+def _parser() -> argparse.ArgumentParser:
+    parser = argparse.ArgumentParser(
+        prog="sotrugla",
+        usage=_USAGE.format("erode|dilate|open|close") + "\n       sotrugla show TICKET",
+        description="Cleans grey pages along lines.",
+        epilog=_EXAMPLES.format("close") + _FOOT,
+        **_SHARED,
+    )
+    title = "words, and what they do to strokes on white paper"
+    words = parser.add_subparsers(title=title, prog="sotrugla", dest="word", metavar="WORD", required=True)
+    for name, word in WORDS.items():
+        _add_cleaning(words, name, word)
+    _add_show(words)
+    options = parser.add_argument_group("options")
+    _add_help(options)
+    # One number for both: the package loads no library of another version than its own.
+    version = f"sotrugla {sotrugla.__version__} (library {sotrugla.__version__})"
+    options.add_argument("--version", action="version", version=version, help="show both versions")
+    return parser
+
+
+def _add_cleaning(words: Any, name: str, word: Word) -> None:
+    parser = words.add_parser(
+        name,
+        usage=_USAGE.format(name),
+        help=word.effect,
+        description=f"On white paper, {word.effect}.",
+        epilog=_EXAMPLES.format(name),
+        **_SHARED,
+    )
+    parser.set_defaults(error=parser.error)
+    options = parser.add_argument_group("pages and options")
+    add = options.add_argument
+    add("pages", metavar="IN", nargs="+", help="the pages' files; - is standard input")
+    add("-o", metavar="OUT", dest="out", required=True, help="the finished page's file or folder; - is standard output")
+    add("--along", metavar="DX,DY", type=_along, help="the line's vector, right and down, or an angle: 31deg")
+    add("--length", metavar="L", type=_number, help="the segment's steps, 1 to 8192")
+    add("--origin", metavar="O", type=_origin, help="the step of its origin, from 0, or centre (default)")
+    add("--periodic", action="store_true", default=None, help="a step is the whole vector, not the next pixel")
+    add("--phase", metavar="I", type=_number, help="the phase of a connected line (default 0)")
+    add("--hide", metavar="BOX", type=_box, action="append", help="hide LEFT,TOP,WIDTH,HEIGHT; up to 64 times")
+    add("--ticket", metavar="FILE", help="a ready ticket, in place of the six above")
+    add("--write-ticket", metavar="FILE", help="keep the ticket in this file")
+    add("--jobs", metavar="N", type=_jobs, default=_processors(), help="pages at a time (default: the processors)")
+    _add_help(options)
+
+
+def _add_show(words: Any) -> None:
+    told = "say in words what a ticket orders"
+    parser = words.add_parser("show", help=told, description=f"{told.capitalize()}.", **_SHARED)
+    options = parser.add_argument_group("ticket and options")
+    options.add_argument("ticket", metavar="TICKET", help="the ticket's file; - is standard input")
+    _add_help(options)
+
+
+def _add_help(options: Any) -> None:
+    options.add_argument("-h", "--help", action="help", help="show this help")
+
+
+def _along(typed: str) -> Along:
+    found = along(typed)
+    if found is None:
+        raise argparse.ArgumentTypeError(f"{typed} is neither a vector like 5,3 nor an angle like 31deg")
+    return found
+
+
+def _number(typed: str) -> int:
+    if not re.fullmatch("[0-9]{1,9}", typed):
+        raise argparse.ArgumentTypeError(f"{typed} is not a whole number from 0")
+    return int(typed)
+
+
+def _origin(typed: str) -> Union[int, str]:
+    if typed != "centre" and not re.fullmatch("[0-9]{1,9}", typed):
+        raise argparse.ArgumentTypeError(f"{typed} is neither a step from 0 nor centre")
+    return typed if typed == "centre" else int(typed)
+
+
+def _box(typed: str) -> sotrugla.HiddenBox:
+    if not re.fullmatch("[0-9]{1,9}(,[0-9]{1,9}){3}", typed):
+        raise argparse.ArgumentTypeError(f"{typed} is not LEFT,TOP,WIDTH,HEIGHT, whole numbers from 0")
+    return sotrugla.HiddenBox(*map(int, typed.split(",")))
+
+
+def _jobs(typed: str) -> int:
+    number = _number(typed)
+    if number == 0:
+        raise argparse.ArgumentTypeError("at least one page at a time")
+    return number
+
+
+def _processors() -> int:
+    """Those that this process may use, where the system says so."""
+    return len(os.sched_getaffinity(0)) if hasattr(os, "sched_getaffinity") else os.cpu_count() or 1
