@@ -10,7 +10,7 @@ use native.Mathlib.Omega.{arith}
 use borrow.Author.Tests.{ltb-true}
 use lib.Dec.{ltb}
 use Rattle.geometry.specs.Vector.{shallow, steep, majorOf, minorOf}
-use Rattle.geometry.specs.Line.{floorDiv, D, shift, period, profile, place, landing, stepOf, majorAt}
+use Rattle.geometry.specs.Line.{nearest, D, shift, period, profile, place, landing, stepOf, majorAt}
 use Rattle.geometry.specs.Number.{within, inPage, count, behind, ahead}
 use Rattle.runs.specs.Block.{rightward, leftward, resulting}
 use Rattle.runs.specs.Scratch.{total}
@@ -78,7 +78,7 @@ opening-done : answer opening row sizes ≡ Done 6
 unfolding answer jobWork judgePlaces judgeSides judgeSource judgeOutput judgeScratch judgePageBoxes judgePageBoxesFrom unless
     _then_ boxAllowed sourcePage outputPage sideAllowed allowed fits scratchNeeded pagesOf workOf erosionWork
     dilationWork passWork chargedAt charged dilationBack runsSteep lineOf segmentOf boxesOf shallow steep majorOf
-    minorOf floorDiv D shift period profile place landing stepOf majorAt within inPage count behind ahead rightward
+    minorOf nearest D shift period profile place landing stepOf majorAt within inPage count behind ahead rightward
     leftward resulting total byteAt numberAt signed16 signedAt operationIn lineIn dxIn dyIn lengthIn originIn phaseIn
     fieldEnd boxAt boxesFrom boxesIn judgeHead judgeSize judgeField operationKnown lineKnown isPeriodic divided coprime
     vectorAllowed lengthAllowed originAllowed phaseAllowed judgeOperation judgeLine judgeVector judgeLength judgeOrigin
@@ -87,7 +87,7 @@ opening-done = refl
 
 -- the middle pixel stands at step 1
 middle-clear : Clear (shown opening) (sourcePage row) 1 0
-unfolding sourcePage runsSteep lineOf boxesOf hidden steep majorOf minorOf floorDiv D shift period profile place landing
+unfolding sourcePage runsSteep lineOf boxesOf hidden steep majorOf minorOf nearest D shift period profile place landing
     stepOf majorAt within inPage downOf acrossOf byteAt numberAt signed16 signedAt operationIn lineIn dxIn dyIn lengthIn
     originIn phaseIn fieldEnd boxAt boxesFrom boxesIn isPeriodic shown boxPlaces
 middle-clear =
@@ -107,7 +107,7 @@ middle-clear =
 
 -- each of the three pixels is near it, and matters to it
 middle-near : (c : ℕ) → c < 3 → Near (shown opening) (sourcePage row) 1 0 c 0
-unfolding sourcePage runsSteep lineOf boxesOf hidden steep majorOf minorOf floorDiv D shift period profile place landing
+unfolding sourcePage runsSteep lineOf boxesOf hidden steep majorOf minorOf nearest D shift period profile place landing
     stepOf majorAt within inPage downOf acrossOf byteAt numberAt signed16 signedAt operationIn lineIn dxIn dyIn lengthIn
     originIn phaseIn fieldEnd boxAt boxesFrom boxesIn isPeriodic shown boxPlaces
 middle-near zero h =

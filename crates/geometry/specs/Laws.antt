@@ -5,8 +5,9 @@
 -- on the minor axis in normal form, H and W are the page's sides on the major and the minor axis.
 -- Assumes nothing.
 pub mod Counting
-pub mod Floor
+pub mod Flip
 pub mod Integers
+pub mod Nearest
 pub mod Normal
 pub mod Numbering
 pub mod Rows
@@ -21,18 +22,19 @@ use native.Mathlib.Decide.{decLt}
 use native.Mathlib.Omega.{arith}
 use borrow.Author.Tests.{leb-true, leb-false}
 use lib.Dec.{ltb, leb}
-use lib.IntN.{ℤ, pos, negsuc, natAbs, _+ℤ_, _*ℤ_}
-use lib.Signed.{_≤ℤ_, _<ℤ_}
+use lib.IntN.{ℤ, pos, negsuc, negℤ, natAbs}
 use mir.Syntax.{w32}
 use mir.Val.{SFits, toZ, ofZ}
 use mir.ValLaws.{toZ-ofZ}
-use Rattle.geometry.specs.Vector.{shallow, steep, Shallow, Steep, majorOf}
-use Rattle.geometry.specs.Line.{floorDiv, period, profile, landing, stepOf, majorAt}
+use Rattle.geometry.specs.Vector.{shallow, steep, Shallow, Steep, majorOf, minorOf}
+use Rattle.geometry.specs.Line.{nearest, D, period, profile, landing, stepOf, majorAt}
 use Rattle.geometry.specs.Number.{within, inPage, behind, ahead}
 use Rattle.geometry.specs.Drift.{Sound, Allowed, Inside, StepIn, Lands, First}
 use Rattle.geometry.specs.Drift.{falls, drift, signed, mirrored, first, reach}
+use Rattle.geometry.specs.Flip.{flipped}
 use Rattle.geometry.specs.Laws.Counting as counting
-use Rattle.geometry.specs.Laws.Floor as floor
+use Rattle.geometry.specs.Laws.Flip as flip
+use Rattle.geometry.specs.Laws.Nearest as nearly
 use Rattle.geometry.specs.Laws.Normal as normal
 use Rattle.geometry.specs.Laws.Numbering as numbering
 use Rattle.geometry.specs.Laws.Rows as rows
@@ -99,13 +101,20 @@ allowed l e h k p =
 pub major-near : (l : Line) → Allowed l → majorOf (l .dx) (l .dy) ≤ 255
 major-near l h = slope.major-near (l .dx) (l .dy) 255 (h .dx-near) (h .dy-near)
 
--- ---- the quotient in D is "rounded towards minus infinity": it is the q with q * b ≤ a < (q + 1) * b
+-- ---- D: its size is the q with q·2a ≤ 2·c·b + a < (q + 1)·2a, so the whole number nearest to c·b / a, and of two that
+-- are as near the larger; its sign is that of the minor component
 
-pub floor-low : (a : ℤ) (b : ℕ) → 1 ≤ b → (floorDiv a b *ℤ pos b) ≤ℤ a
-floor-low a b h = floor.floor-low a b h
+pub nearest-low : (a b c : ℕ) → nearest a b c * (2 * a) ≤ 2 * c * b + a
+nearest-low a b c = nearly.nearest-low a b c
 
-pub floor-high : (a : ℤ) (b : ℕ) → 1 ≤ b → a <ℤ ((floorDiv a b +ℤ pos 1) *ℤ pos b)
-floor-high a b h = floor.floor-high a b h
+pub nearest-high : (a b c : ℕ) → 1 ≤ a → 2 * c * b + a < suc (nearest a b c) * (2 * a)
+nearest-high a b c h = nearly.nearest-high a b c h
+
+pub D-size : (a : ℕ) (z : ℤ) (c : ℕ) → natAbs (D a z c) ≡ nearest a (natAbs z) c
+D-size a z c = nearly.D-size a z c
+
+pub D-negated : (a : ℕ) (z : ℤ) (c : ℕ) → 1 ≤ a → D a (negℤ z) c ≡ negℤ (D a z c)
+D-negated a z c h = nearly.D-negated a z c h
 
 -- ---- the drift
 
@@ -416,3 +425,50 @@ behind-reach-of l h H W M m n hM hm k =
     let v : ℕ = drift l t - mirrored (falls l) W m in
     behind-reach l h H W M m hM hm
     ∙ ap (λ (r : ℕ). t - r) (reach-more l v (suc t) n t (omega arith) (omega arith) k)
+
+-- ---- the flip: document 02, wish 2. Let l be a line that a ticket may order, and m a place of a side W; mirrored true
+-- W m is the place as far from the side's other end.
+
+-- the flipped line is a line that a ticket may order, on the same axes, with its minor component negated
+module _ (l : Line) (e : shallow (l .dx) (l .dy) || steep (l .dx) (l .dy) ≡ true) where
+  pub flipped-runs : shallow (flipped l .dx) (flipped l .dy) || steep (flipped l .dx) (flipped l .dy) ≡ true
+  flipped-runs = flip.runs-flipped l e
+
+  pub flipped-steep : steep (flipped l .dx) (flipped l .dy) ≡ steep (l .dx) (l .dy)
+  flipped-steep = flip.steep-flipped l e
+
+  pub flipped-major : majorOf (flipped l .dx) (flipped l .dy) ≡ majorOf (l .dx) (l .dy)
+  flipped-major = flip.major-flipped l e
+
+  pub flipped-minor : minorOf (flipped l .dx) (flipped l .dy) ≡ negℤ (minorOf (l .dx) (l .dy))
+  flipped-minor = flip.minor-flipped l e
+
+  -- flipped again, it is the line itself
+  pub flipped-twice : flipped (flipped l) ≡ l
+  flipped-twice = flip.flipped-twice l e
+
+  -- it makes the same steps along the major axis
+  pub flipped-step : (M : ℕ) → stepOf (flipped l) M ≡ stepOf l M
+  flipped-step M = flip.step-flipped l e M
+
+  pub flipped-major-at : (M s : ℕ) → majorAt (flipped l) M s ≡ majorAt l M s
+  flipped-major-at M s = flip.major-at-flipped l e M s
+
+  -- where the line lands on a place of the side, the flipped one lands on the mirrored place
+  pub flipped-landing : (W m m′ t s : ℕ) → m < W → m′ < W → landing l m t s ≡ some m′
+      → landing (flipped l) (mirrored true W m) t s ≡ some (mirrored true W m′)
+  flipped-landing W m m′ t s h h′ there = flip.lands-flipped l e W m m′ t s h h′ there
+
+  -- so the same steps are in the page, and a pixel has the mirrored pixel's number
+  pub flipped-in-page : (H W M m s : ℕ) → m < W → inPage (flipped l) H W M (mirrored true W m) s ≡ inPage l H W M m s
+  flipped-in-page H W M m s h = flip.in-page-flipped l e H W M m s h
+
+  pub flipped-behind : (H W M m : ℕ) → m < W → behind (flipped l) H W M (mirrored true W m) ≡ behind l H W M m
+  flipped-behind H W M m h = flip.behind-flipped l e H W M m h
+
+  pub flipped-ahead : (H W M m : ℕ) → m < W → ahead (flipped l) H W M (mirrored true W m) ≡ ahead l H W M m
+  flipped-ahead H W M m h = flip.ahead-flipped l e H W M m h
+
+-- a level line is its own negation
+pub flipped-level : (l : Line) → minorOf (l .dx) (l .dy) ≡ pos 0 → flipped l ≡ l
+flipped-level l e = flip.flipped-level l e

@@ -1,8 +1,9 @@
--- To be read: Vector, Line, Number, Drift, Tables (definitions), Worked (values), Laws (statements; proofs in Laws/).
+-- To be read: Vector, Line, Number, Drift, Flip, Tables (definitions), Worked (values), Laws (statements; proofs in Laws/).
 pub mod Vector
 pub mod Line
 pub mod Number
 pub mod Drift
+pub mod Flip
 pub mod Tables
 pub mod Worked
 pub mod Laws

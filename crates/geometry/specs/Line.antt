@@ -1,23 +1,24 @@
--- Document 01, 'Lines': where the steps of a line land. A pixel is named by its place M on the major axis and its place
+-- Document 01, 'Lines', with the D of document 02, wish 2: where the steps of a line land. A pixel is named by its place M on the major axis and its place
 -- m on the minor one (Vector). A line's steps are counted from the page's corner: a pixel at M stands at step M /
 -- period of its line.
 -- Assumes nothing.
-use Prim.Native.Nat.{ℕ, _+_, _*_, _/_, _%_}
+use Prim.Native.Nat.{ℕ, suc, _+_, _*_, _/_, _%_}
 use mathlib.Core.Bool.{cond}
 use mathlib.Core.Option.{Option, none, some}
-use lib.IntN.{ℤ, pos, negsuc, _+ℤ_, _-ℤ_, _*ℤ_}
+use lib.IntN.{ℤ, pos, negsuc, negℤ, _+ℤ_, _-ℤ_, _*ℤ_}
 use Rattle.geometry.specs.Vector.{majorOf, minorOf}
 use Rattle.geometry.specs.declared.Line.{Line}
 
--- a quotient "rounded towards minus infinity": -(a + 1) / n is one below a / n on the negative side
-unfoldable pub floorDiv : ℤ → ℕ → ℤ
-floorDiv (pos a) n = pos (a / n)
-floorDiv (negsuc a) n = negsuc (a / n)
+-- Document 02, wish 2: D "rounds the size with ties away from zero". The true line of a major component a and a minor
+-- one of size b is c·b / a places away at column c; this is the whole number nearest to it, the larger one on a tie.
+unfoldable pub nearest : ℕ → ℕ → ℕ → ℕ
+nearest a b c = (2 * c * b + a) / (2 * a)
 
--- "D(c) = floor((2·c·dy + dx) / (2·dx)), rounded towards minus infinity, is the row closest to the true line; a tie
--- goes to the larger row", for a major component dx and a minor component dy
+-- "D takes the sign of dy", for a major component dx and a minor component dy: of a line that does not fall it is
+-- document 01's "floor((2·c·dy + dx) / (2·dx))", and of one that falls the same counted down
 unfoldable pub D : ℕ → ℤ → ℕ → ℤ
-D major minor c = floorDiv (pos (2 * c) *ℤ minor +ℤ pos major) (2 * major)
+D major (pos b) c = pos (nearest major b c)
+D major (negsuc b) c = negℤ (pos (nearest major (suc b) c))
 
 -- "With phase i the shift is D(c+i) - D(i)."
 unfoldable pub shift : ℕ → ℤ → ℕ → ℕ → ℤ

@@ -4,15 +4,15 @@ use mathlib.Core.Path.{_≡_}
 use mathlib.Core.List.{List}
 use Prim.Native.Nat.{ℕ, suc, _+_, _*_, _≤_, _<_}
 use lib.ListN.{length, getD}
-use lib.IntN.{ℤ, natAbs}
 use Rattle.geometry.specs.Drift.{Allowed, drift, reach}
 use Rattle.geometry.specs.declared.Line.{Line}
 
--- what the code computes D from: components as a ticket has them, and a column of the page, shifted by a phase
-pub record Slight (major : ℕ) (minor : ℤ) (c : ℕ) : Type 0 where
+-- what the code computes the size of D from: the sizes of components as a ticket has them, and a column of the page,
+-- shifted by a phase
+pub record Slight (major minor c : ℕ) : Type 0 where
   pub forward : 1 ≤ major
   pub major-near : major ≤ 255
-  pub minor-near : natAbs minor ≤ 255
+  pub minor-near : minor ≤ 255
   pub column : c < 16384
 
 -- a table whose entry t is the drift at step t

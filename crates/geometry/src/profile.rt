@@ -1,31 +1,30 @@
 // How far a line has moved along the minor axis at each of its steps.
 ghost use mathlib.Core.Path.{_≡_};
-ghost use Prim.Native.Nat.{_+_, _<_, _≤_};
+ghost use Prim.Native.Nat.{_+_, _-_, _≤_};
 ghost use lib.ListN.{length};
-ghost use Rattle.geometry.specs.Line.{D, shift};
+ghost use Rattle.geometry.specs.Line as line;
 ghost use Rattle.geometry.specs.Drift.{Allowed, drift};
 ghost use Rattle.geometry.specs.Tables.{Slight, ProfileTable};
 use crate::Line;
-use crate::division::floor_div;
 use crate::vector::major_of;
 use crate::vector::minor_of;
 use crate::vector::size;
 
-// D at column c: the row closest to the true line.
-fn nearest_row(major: usize, minor: i64, c: usize) -> i64
+// The size of D at column c: how many places the row closest to the true line is away from row 0, whichever way. Half
+// the divisor is added before the division, so a tie goes away from zero.
+fn nearest(major: usize, minor: usize, c: usize) -> usize
     requires { ⌜ Slight major minor c ⌝ }
-    ensures { λ r. ⌜ r ≡ D major minor c ⌝ }
+    ensures { λ r. ⌜ r ≡ line.nearest major minor c ⌝ }
 {
-    let along = major as i64;
-    floor_div(2 * (c as i64) * minor + along, 2 * along)
+    (2 * c * minor + major) / (2 * major)
 }
 
-// The shift at column c of a line with a phase: below zero where the line falls.
-fn shift_at(major: usize, minor: i64, phase: usize, c: usize) -> i64
+// The size of the shift at column c of a line with a phase.
+fn shift_size(major: usize, minor: usize, phase: usize, c: usize) -> usize
     requires { ⌜ Slight major minor (c + phase) ⌝ }
-    ensures { λ r. ⌜ r ≡ shift major minor phase c ⌝ }
+    ensures { λ r. ⌜ r ≡ line.nearest major minor (c + phase) - line.nearest major minor phase ⌝ }
 {
-    nearest_row(major, minor, c + phase) - nearest_row(major, minor, phase)
+    nearest(major, minor, c + phase) - nearest(major, minor, phase)
 }
 
 // How far a line has drifted at its step t.
@@ -34,11 +33,11 @@ pub fn drift_at(line: Line, t: usize) -> usize
     requires { ⌜ t ≤ 8192 ⌝ }
     ensures { λ r. ⌜ r ≡ drift line t ⌝ }
 {
-    let minor = minor_of(line.dx, line.dy);
+    let minor = size(minor_of(line.dx, line.dy));
     if line.periodic {
-        t * size(minor)
+        t * minor
     } else {
-        size(shift_at(major_of(line.dx, line.dy), minor, line.phase, t))
+        shift_size(major_of(line.dx, line.dy), minor, line.phase, t)
     }
 }
 

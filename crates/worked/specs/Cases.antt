@@ -14,7 +14,7 @@ use lib.ListN.{take, drop, replicate}
 use lib.Dec.{eqb, leb}
 use lib.IntN.{ℤ, pos, negsuc}
 use Rattle.geometry.specs.Vector.{shallow, steep, majorOf, minorOf}
-use Rattle.geometry.specs.Line.{floorDiv, D, shift, period, profile, place, landing, stepOf, majorAt}
+use Rattle.geometry.specs.Line.{nearest, D, shift, period, profile, place, landing, stepOf, majorAt}
 use Rattle.geometry.specs.Number.{within, inPage, count, behind, ahead}
 use Rattle.runs.specs.Span.{chosen}
 use Rattle.runs.specs.Block.{rightward, leftward, resulting}
@@ -415,7 +415,7 @@ read-once = λ i c. sym (read-first (shown (c .bytes)) (verdict c)) i
 computed : map readOnce table ≡ map by-table table
 unfolding first firstℤ readFirst
     shallow steep majorOf minorOf
-    floorDiv D shift period profile place landing stepOf majorAt
+    nearest D shift period profile place landing stepOf majorAt
     within inPage count behind ahead
     chosen rightward leftward resulting total
     numberOf placeOf workIn isDone whenDone unless _then_

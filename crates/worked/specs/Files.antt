@@ -9,7 +9,7 @@ use Prim.Native.Nat.{ℕ}
 use mathlib.Core.List.{List, [], _∷_, _++_}
 use lib.ListN.{replicate}
 use Rattle.geometry.specs.Vector.{shallow, steep, majorOf, minorOf}
-use Rattle.geometry.specs.Line.{floorDiv, D, shift, period, profile, place, landing, stepOf, majorAt}
+use Rattle.geometry.specs.Line.{nearest, D, shift, period, profile, place, landing, stepOf, majorAt}
 use Rattle.geometry.specs.Number.{within, inPage, count, ahead}
 use Rattle.geometry.specs.Number as Number
 use Rattle.runs.specs.Span.{chosen}
@@ -101,7 +101,7 @@ worked-files :
     ∷ refused (Refused BadPhase 25) 15
     ∷ [])
 unfolding shallow steep majorOf minorOf
-    floorDiv D shift period profile place landing stepOf majorAt
+    nearest D shift period profile place landing stepOf majorAt
     within inPage count Number.behind ahead
     chosen rightward leftward resulting total
     numberOf placeOf workIn isDone whenDone unless _then_
