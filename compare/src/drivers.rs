@@ -2,18 +2,20 @@
 //! path and its arguments.
 
 use std::io;
+use std::ops::Range;
 
 use crate::generate::{self, MadeFile, TicketList};
+use crate::job::{self, Job, Outcome};
 use crate::page_program::reply;
 use crate::refusal::{BOX_OFF_PAGE, PHASE, PIXELS, SOURCE_DOES_NOT_FIT, TICKET_ENDS};
 use crate::ticket_list::LONGEST_LIST;
 use crate::trial::{hex, Due, Trial};
-use crate::{file_job, file_list, job, job_list, marks, number_list, ticket_list};
+use crate::{file_job, file_list, flip, job_list, marks, number_list, ticket_list};
 
 pub type Driver = fn(u64, u64, &[&str]) -> io::Result<Trial>;
 
 /// Jobs for one run of a job program or a file program.
-const JOBS_A_RUN: usize = 50;
+const JOBS_A_RUN: u64 = 50;
 
 /// The page program, one run an input.
 pub fn pages(seed: u64, count: u64, program: &[&str]) -> io::Result<Trial> {
@@ -73,26 +75,79 @@ pub fn numbers(seed: u64, count: u64, program: &[&str]) -> io::Result<Trial> {
     Ok(trial)
 }
 
+/// Entries laid end to end for one run of a program, and the line due for each.
+#[derive(Default)]
+struct Batch {
+    list: Vec<u8>,
+    dues: Vec<Due>,
+}
+
+impl Batch {
+    fn push(&mut self, entry: Vec<u8>, due: Due) {
+        self.list.extend(entry);
+        self.dues.push(due);
+    }
+
+    fn push_job(&mut self, index: u64, job: &Job, outcome: &Outcome) {
+        let due = Due { index, input: job_list::told(job), text: job_list::line(outcome) };
+        self.push(job_list::entry(job), due);
+    }
+}
+
+/// All indices, so many a run.
+fn runs(count: u64, a_run: u64) -> impl Iterator<Item = Range<u64>> {
+    (0..count).step_by(a_run as usize).map(move |first| first..count.min(first + a_run))
+}
+
 /// The job program, many jobs a run; it prints a job's line as soon as the job is done, so that a
 /// job that crashes or does not come back is told.
 pub fn jobs(seed: u64, count: u64, program: &[&str]) -> io::Result<Trial> {
     let mut trial = Trial::new(seed, count, "jobs");
-    let indices: Vec<u64> = (0..count).collect();
-    for indices in indices.chunks(JOBS_A_RUN) {
-        let (mut list, mut dues) = (Vec::new(), Vec::new());
-        for &index in indices {
+    for indices in runs(count, JOBS_A_RUN) {
+        let mut batch = Batch::default();
+        for index in indices {
             let job = generate::job(seed, index);
             let outcome = job::run(&job);
-            for (mark, holds) in marks::of(&job, &outcome) {
-                trial.count(&mark, u64::from(holds));
-            }
-            list.extend(job_list::entry(&job));
-            let text = job_list::line(&outcome);
-            dues.push(Due { index, input: job_list::told(&job), text });
+            trial.count_marks(&marks::of(&job, &outcome));
+            batch.push_job(index, &job, &outcome);
         }
-        trial.ask(program, &list, &dues)?;
+        trial.ask(program, &batch.list, &batch.dues)?;
     }
     Ok(trial)
+}
+
+/// The job program once more, over jobs that finish, each with its flipped job. Both lines are held
+/// to this reading, and then to one another: that is wish 2 whatever this reading says.
+pub fn flips(seed: u64, count: u64, program: &[&str]) -> io::Result<Trial> {
+    let mut trial = Trial::new(seed, count, "jobs and their flipped jobs");
+    // Every pair has the same marks by name.
+    let pair = generate::flip_pair(seed, 0);
+    marks::of_flip(&pair, &job::run(&pair[0])).iter().for_each(|(mark, _)| trial.require(mark));
+    for indices in runs(count, JOBS_A_RUN / 2) {
+        let mut batch = Batch::default();
+        let pairs: Vec<[Job; 2]> =
+            indices.clone().map(|index| generate::flip_pair(seed, index)).collect();
+        for (index, pair) in indices.zip(&pairs) {
+            let outcomes = pair.each_ref().map(job::run);
+            trial.count_marks(&marks::of_flip(pair, &outcomes[0]));
+            for (job, outcome) in pair.iter().zip(&outcomes) {
+                batch.push_job(index, job, outcome);
+            }
+        }
+        let printed = trial.ask(program, &batch.list, &batch.dues)?;
+        for ((pair, dues), lines) in pairs.iter().zip(batch.dues.chunks(2)).zip(printed.chunks(2)) {
+            hold_flip(&mut trial, pair, dues, [&lines[0], &lines[1]]);
+        }
+    }
+    Ok(trial)
+}
+
+/// A flipped job is due the very answer and page that were printed for the job itself, flipped.
+fn hold_flip(trial: &mut Trial, pair: &[Job; 2], dues: &[Due], lines: [&[u8]; 2]) {
+    if let Some([text, printed]) = flip::seen(pair, lines) {
+        let input = format!("flipped: {}\nto: {}", dues[0].input, dues[1].input);
+        trial.hold(&Due { index: dues[0].index, input, text }, printed.as_bytes());
+    }
 }
 
 /// The file program, many jobs on files a run, as the job program.
@@ -104,19 +159,17 @@ pub fn files(seed: u64, count: u64, program: &[&str]) -> io::Result<Trial> {
         trial.require(&format!("refused {number}"));
     }
     generate::file_kinds().iter().for_each(|(kind, _)| trial.require(kind));
-    let indices: Vec<u64> = (0..count).collect();
-    for indices in indices.chunks(JOBS_A_RUN) {
-        let (mut list, mut dues) = (Vec::new(), Vec::new());
-        for &index in indices {
+    for indices in runs(count, JOBS_A_RUN) {
+        let mut batch = Batch::default();
+        for index in indices {
             let MadeFile { job, kinds } = generate::file_job(seed, index);
             let outcome = file_job::run(&job);
             trial.count(&file_list::kind(&outcome), 1);
             kinds.iter().for_each(|kind| trial.count(kind, 1));
-            list.extend(file_list::entry(&job));
             let text = file_list::line(&job, &outcome);
-            dues.push(Due { index, input: file_list::told(&job), text });
+            batch.push(file_list::entry(&job), Due { index, input: file_list::told(&job), text });
         }
-        trial.ask(program, &list, &dues)?;
+        trial.ask(program, &batch.list, &batch.dues)?;
     }
     Ok(trial)
 }

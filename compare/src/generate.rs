@@ -9,6 +9,7 @@ mod file_headers;
 mod file_kinds;
 mod file_numbers;
 mod files;
+mod flips;
 mod inputs;
 mod jobs;
 mod lists;
@@ -73,6 +74,11 @@ pub fn number_input(seed: u64, index: u64) -> Vec<u8> {
 /// A whole job at a random placement, with random old contents.
 pub fn job(seed: u64, index: u64) -> Job {
     jobs::job(&mut Random::new(seed, index))
+}
+
+/// A job that finishes, and its flipped job, which lies elsewhere in trays of its own.
+pub fn flip_pair(seed: u64, index: u64) -> [Job; 2] {
+    flips::pair(&mut Random::new(seed, index))
 }
 
 /// A whole job on a P5 file, with random old contents.

@@ -42,6 +42,11 @@ pub struct Outcome {
 }
 
 impl Job {
+    /// Asked only of sides within the limits.
+    pub fn sides(&self) -> Sides {
+        Sides { width: self.width as i64, height: self.height as i64 }
+    }
+
     pub fn source_page(&self) -> Placement {
         let (offset, stride) = (self.source_offset, self.source_stride);
         Placement { offset, width: self.width, height: self.height, stride }
@@ -103,8 +108,7 @@ fn on_page(hidden_box: &HiddenBox, width: u64, height: u64) -> bool {
 }
 
 fn finish(job: &Job, ticket: &Ticket, outcome: &mut Outcome) {
-    let sides = Sides { width: job.width as i64, height: job.height as i64 };
-    let (source, output) = (job.source_page(), job.output_page());
+    let (sides, source, output) = (job.sides(), job.source_page(), job.output_page());
     let pixels = sides.pixels();
     let greys: Vec<u8> = pixels.iter().map(|&pixel| job.source[source.byte(pixel)]).collect();
     let results = filter::filtered(sides, &greys, ticket, WHITE);

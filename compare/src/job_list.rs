@@ -2,6 +2,7 @@
 //! answer and the later contents of its buffers.
 
 use crate::job::{self, Job, Outcome};
+use crate::lines::Pixel;
 use crate::trial::hex;
 
 /// A job in bytes, as `host.c` reads it: ten numbers of eight bytes, the lowest byte first, then
@@ -53,6 +54,21 @@ pub fn printed(mut list: &[u8]) -> String {
 pub fn line(Outcome { answer, output, scratch }: &Outcome) -> String {
     let answer = format!("{} {} {}", answer.refusal, answer.place, answer.work);
     format!("{answer} output {} scratch {}\n", hex(output), hex(scratch))
+}
+
+/// What a printed line says of a job's page: refusal, place and work, then the output page, its
+/// pixels in this order. Nothing if it is no such line for this job.
+pub fn page_seen(job: &Job, line: &[u8], order: &[Pixel]) -> Option<String> {
+    let words: Vec<&str> = std::str::from_utf8(line).ok()?.strip_suffix('\n')?.split(' ').collect();
+    let [refusal, place, work, "output", output, "scratch", _] = words[..] else {
+        return None;
+    };
+    let mut text = format!("{refusal} {place} {work} page ");
+    for &pixel in order {
+        let byte = job.output_page().byte(pixel);
+        text += output.get(2 * byte..2 * byte + 2)?;
+    }
+    Some(text)
 }
 
 /// All that is lent to a job, to be told with a difference.

@@ -10,6 +10,7 @@
 //! - `lines`: the pixel one step on, a pixel's number on its line, every line of a page
 //! - `filter`: erosion, dilation, opening and closing with absent pixels
 //! - `work`: the comparisons of a job, counted block by block
+//! - `flip`: the flipped job of wish 2, and what was printed for both, side by side
 //! - `job`: a whole job, its answer and the later contents of output tray and scratch
 //! - `pgm`: a P5 file to its header or a refusal, and the header that is written
 //! - `file_job`: a whole job on a P5 file
@@ -29,6 +30,7 @@ pub mod drivers;
 pub mod file_job;
 pub mod file_list;
 pub mod filter;
+pub mod flip;
 pub mod generate;
 pub mod job;
 pub mod job_list;

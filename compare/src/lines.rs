@@ -1,4 +1,5 @@
-//! Document 01, "Lines": one step on a line, and what follows from walking step by step.
+//! Document 01, "Lines", with the D of wish 2: one step on a line, and what follows from walking
+//! step by step.
 
 use crate::ticket::{Ticket, PERIODIC};
 
@@ -42,10 +43,17 @@ pub enum Way {
     Behind,
 }
 
-/// D(c) = floor((2·c·dy + dx) / (2·dx)) for a shallow vector. Euclid's division rounds towards
-/// minus infinity here, as dx is at least 1; dividing towards zero would bend falling lines.
+/// D(c) for a shallow vector, as wish 2 has it: "D takes the sign of dy and rounds the size with
+/// ties away from zero, so (2, -1) gives 0 -1 -1 -2". This replaces 01's floor, which sent a tie to
+/// the larger row; they differ only where dy is below 0.
+///
+/// The size is c·abs dy / dx. Document 01 asks for D at a page's columns and at phases, never below
+/// 0, and there adding one half and dropping the fraction sends a tie away from zero. A walk behind
+/// also asks left of column 0, to learn that it left the page, which it did whatever the row. There
+/// the same sum is rounded towards minus infinity (Euclid's division, as dx is at least 1), so that
+/// D(c + dx) = D(c) + dy, lines do not turn round, and -dy gives -D(c), for every c.
 pub fn nearest_row(c: i64, dx: i64, dy: i64) -> i64 {
-    (2 * c * dy + dx).div_euclid(2 * dx)
+    dy.signum() * (2 * c * dy.abs() + dx).div_euclid(2 * dx)
 }
 
 impl Lines {
@@ -54,14 +62,23 @@ impl Lines {
         Lines { kind: ticket.line, dx, dy, phase: i64::from(ticket.phase) }
     }
 
-    fn shallow(&self) -> bool {
+    pub fn shallow(&self) -> bool {
         self.dx >= 1 && self.dy.abs() <= self.dx
+    }
+
+    /// The major component, along which a connected line steps pixel by pixel, and the minor one.
+    pub fn major_and_minor(&self) -> (i64, i64) {
+        if self.shallow() {
+            (self.dx, self.dy)
+        } else {
+            (self.dy, self.dx)
+        }
     }
 
     /// The shift D(c+i) - D(i) at column c; at row c, with dx and dy exchanged, when steep.
     fn shift(&self, c: i64) -> i64 {
-        let (long, short) = if self.shallow() { (self.dx, self.dy) } else { (self.dy, self.dx) };
-        nearest_row(c + self.phase, long, short) - nearest_row(self.phase, long, short)
+        let (major, minor) = self.major_and_minor();
+        nearest_row(c + self.phase, major, minor) - nearest_row(self.phase, major, minor)
     }
 
     /// The pixel one step along the way, on the page or off it.

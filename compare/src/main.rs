@@ -16,12 +16,15 @@ const USAGE: &str = "usage:
   compare file-list                       read a file program's input, print what it must print
   compare make SEED INDEX                 write one generated input of a page program
   compare make-jobs SEED FIRST COUNT      write generated jobs, an input of a job program
+  compare make-flips SEED FIRST COUNT     write other such jobs, each followed by its flipped job
   compare make-files SEED FIRST COUNT     write generated jobs on files, an input of a file program
 PROGRAM may be several words, the program and its arguments:
   compare pages SEED COUNT PROGRAM..      run a page program over generated inputs and compare
   compare tickets SEED COUNT PROGRAM..    run a ticket program over generated tickets and compare
   compare numbers SEED COUNT PROGRAM..    run a number program over generated samples and compare
   compare jobs SEED COUNT PROGRAM..       run a job program over generated jobs and compare
+  compare flips SEED COUNT PROGRAM..      run a job program over generated jobs and their flipped
+                                          jobs, compare, and hold the two to one another
   compare files SEED COUNT PROGRAM..      run a file program over generated files and compare";
 
 fn main() -> ExitCode {
@@ -47,13 +50,8 @@ fn did(words: &[&str]) -> Option<io::Result<ExitCode>> {
         ["make", seed, index] => print(&generate::page_input(number(seed)?, number(index)?)),
         ["job-list"] => answer(job_list::printed),
         ["file-list"] => answer(file_list::printed),
-        ["make-jobs", seed, first, count] => {
-            let (seed, first, count) = (number(seed)?, number(first)?, number(count)?);
-            print_all(first, count, |index| job_list::entry(&generate::job(seed, index)))
-        }
-        ["make-files", seed, first, count] => {
-            let (seed, first, count) = (number(seed)?, number(first)?, number(count)?);
-            print_all(first, count, |index| file_list::entry(&generate::file_job(seed, index).job))
+        [word, seed, first, count] if word.starts_with("make-") => {
+            print_all(entry(word)?, number(seed)?, number(first)?, number(count)?)
         }
         [word, seed, count, ref program @ ..] if !program.is_empty() => {
             drive(driver(word)?, number(seed)?, number(count)?, program)
@@ -80,9 +78,24 @@ fn print(bytes: &[u8]) -> io::Result<ExitCode> {
     Ok(ExitCode::SUCCESS)
 }
 
+/// What a list has for one seed and index.
+type Entry = fn(u64, u64) -> Vec<u8>;
+
+fn entry(word: &str) -> Option<Entry> {
+    match word {
+        "make-jobs" => Some(|seed, index| job_list::entry(&generate::job(seed, index))),
+        "make-flips" => Some(|seed, index| {
+            generate::flip_pair(seed, index).map(|job| job_list::entry(&job)).concat()
+        }),
+        "make-files" => Some(|seed, index| file_list::entry(&generate::file_job(seed, index).job)),
+        _ => None,
+    }
+}
+
 /// Prints the entries of a list from the first index on.
-fn print_all(first: u64, count: u64, entry: impl Fn(u64) -> Vec<u8>) -> io::Result<ExitCode> {
-    print(&(first..first.saturating_add(count)).flat_map(entry).collect::<Vec<u8>>())
+fn print_all(entry: Entry, seed: u64, first: u64, count: u64) -> io::Result<ExitCode> {
+    let entries = (first..first.saturating_add(count)).flat_map(|index| entry(seed, index));
+    print(&entries.collect::<Vec<u8>>())
 }
 
 fn driver(word: &str) -> Option<Driver> {
@@ -91,6 +104,7 @@ fn driver(word: &str) -> Option<Driver> {
         "tickets" => Some(drivers::tickets),
         "numbers" => Some(drivers::numbers),
         "jobs" => Some(drivers::jobs),
+        "flips" => Some(drivers::flips),
         "files" => Some(drivers::files),
         _ => None,
     }

@@ -1,5 +1,7 @@
-//! What a summary counts of a job: its answer, its near misses, its ticket and its placing.
+//! What a summary counts of a job: its answer, its near misses, its ticket and its placing; and of
+//! a job that is flipped.
 
+use crate::flip::Flip;
 use crate::job::{Job, Outcome};
 use crate::lines::{Lines, Sides};
 use crate::placement::{scratch_needed, Placement, LONGEST_SIDE, LONGEST_STRIDE};
@@ -22,6 +24,37 @@ pub fn of(job: &Job, outcome: &Outcome) -> Vec<(String, bool)> {
         marks.push((format!("done, {name}"), done && holds));
     }
     marks
+}
+
+/// The same for a job that is held to its flipped job, given with its own outcome.
+pub fn of_flip([job, flipped]: &[Job; 2], outcome: &Outcome) -> Vec<(String, bool)> {
+    let done = outcome.answer.refusal == NONE;
+    let ticket = ticket::shown(&job.ticket).1;
+    let (lines, sides) = (Lines::of(&ticket), job.sides());
+    let (tie, minor) = (done && tie(lines, sides), lines.major_and_minor().1);
+    let (source, other) = (job.source_page(), flipped.source_page());
+    let (flip, output) = (Flip::of(&ticket), job.output_page());
+    let result = |at| outcome.output[output.byte(at)];
+    let turned = |at| result(at) != result(flip.pixel(sides, at));
+    let more = [
+        ("a tie on a rising line", tie && minor > 0),
+        ("a tie on a falling line", tie && minor < 0),
+        ("flipped elsewhere", source.offset != other.offset && source.stride != other.stride),
+        ("not its own flip", done && sides.pixels().into_iter().any(turned)),
+    ];
+    let marks = ticket_marks(&ticket).into_iter();
+    let marks = marks.chain(more.map(|(name, holds)| (name.to_string(), holds)));
+    marks.map(|(name, holds)| (name, done && holds)).collect()
+}
+
+/// Whether the true line lies halfway between two rows at some column of the page; between two
+/// columns at some row, when steep. A page of one row or one column cannot show it.
+fn tie(lines: Lines, sides: Sides) -> bool {
+    let (major, minor) = lines.major_and_minor();
+    let side = if lines.shallow() { sides.width } else { sides.height };
+    let halfway = |c: i64| (2 * (c + lines.phase) * minor.abs() + major) % (2 * major) == 0;
+    let room = sides.width > 1 && sides.height > 1;
+    lines.kind == CONNECTED && room && (0..side).any(halfway)
 }
 
 /// Near misses, each with the refusal it is there for.
@@ -98,7 +131,7 @@ fn placing_marks(job: &Job, ticket: &Ticket, done: bool) -> [(&'static str, bool
 }
 
 fn long_line(job: &Job, ticket: &Ticket) -> bool {
-    let sides = Sides { width: job.width as i64, height: job.height as i64 };
+    let sides = job.sides();
     let long_side = sides.width.max(sides.height) >= 1000;
     long_side && Lines::of(ticket).every_line(sides).iter().any(|line| line.len() >= 1000)
 }

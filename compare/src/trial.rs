@@ -46,6 +46,11 @@ impl Trial {
         }
     }
 
+    /// Counts the marks that hold, and names the others too.
+    pub fn count_marks(&mut self, marks: &[(String, bool)]) {
+        marks.iter().for_each(|(mark, holds)| self.count(mark, u64::from(*holds)));
+    }
+
     /// Kinds that the summary shall name even if they never are due.
     pub fn expect(&mut self, kinds: &[&str]) {
         kinds.iter().for_each(|kind| self.count(kind, 0));
@@ -75,20 +80,31 @@ impl Trial {
 
     /// Runs a program once, for all that is due in this run. Each text due is one line, but the
     /// last, which must be all the rest. A bad end is told at the first line that is not whole, or
-    /// at the last; what would come later is left out.
-    pub fn ask(&mut self, program: &[&str], input: &[u8], dues: &[Due]) -> io::Result<()> {
+    /// at the last; what would come later is left out. Gives back what was printed for each.
+    pub fn ask(
+        &mut self,
+        program: &[&str],
+        input: &[u8],
+        dues: &[Due],
+    ) -> io::Result<Vec<Vec<u8>>> {
         let Run { printed, flaw } = program::run(program, input, TIME_LIMIT)?;
         let parts = parts(&printed, dues.len());
         let end = parts.iter().position(|part| !part.ends_with(b"\n")).unwrap_or(dues.len() - 1);
-        for (at, (due, part)) in dues.iter().zip(parts).enumerate() {
+        for (at, (due, part)) in dues.iter().zip(&parts).enumerate() {
             if flaw.is_some() && at == end {
                 self.differ(due, part, flaw);
                 break;
-            } else if due.text.as_bytes() != part {
-                self.differ(due, part, None);
             }
+            self.hold(due, part);
         }
-        Ok(())
+        Ok(parts.into_iter().map(<[u8]>::to_vec).collect())
+    }
+
+    /// Holds what was printed to what is due.
+    pub fn hold(&mut self, due: &Due, printed: &[u8]) {
+        if due.text.as_bytes() != printed {
+            self.differ(due, printed, None);
+        }
     }
 
     /// Prints the first differences at once, not with the summary: more runs may take long.

@@ -5,7 +5,7 @@ use std::io::Write;
 use std::process::{Command, Output, Stdio};
 use std::time::Duration;
 
-use compare::generate::{file_job, job, page_input};
+use compare::generate::{file_job, flip_pair, job, page_input};
 use compare::trial::Trial;
 use compare::{file_list, job_list, program};
 
@@ -26,6 +26,8 @@ fn words_that_print() {
     assert_eq!(compare(&["make", "1", "5"], b"").stdout, page_input(1, 5));
     let jobs = [5, 6].map(|index| job_list::entry(&job(1, index))).concat();
     assert_eq!(compare(&["make-jobs", "1", "5", "2"], b"").stdout, jobs);
+    let flips = flip_pair(1, 5).map(|job| job_list::entry(&job)).concat();
+    assert_eq!(compare(&["make-flips", "1", "5", "1"], b"").stdout, flips);
     let files = [5, 6].map(|index| file_list::entry(&file_job(1, index).job)).concat();
     assert_eq!(compare(&["make-files", "1", "5", "2"], b"").stdout, files);
     assert_eq!(compare(&["page"], b"\0\x03\0").stdout, b"bad input\n");
@@ -46,10 +48,12 @@ fn words_that_print() {
 #[test]
 fn words_that_say_nothing() {
     let no_number = ["tickets", "1", "x", "true"];
-    for words in [&[][..], &["paper"], &["make", "1"], &["make-jobs", "1", "2"], &no_number] {
+    let no_list = ["make-paper", "1", "2", "3"];
+    let short = [&[][..], &["paper"], &["make", "1"], &["make-jobs", "1", "2"]];
+    for words in [&short[..], &[&no_number, &no_list]].concat() {
         assert_eq!(compare(words, b"").status.code(), Some(2));
     }
-    for word in ["pages", "tickets", "numbers", "jobs", "files"] {
+    for word in ["pages", "tickets", "numbers", "jobs", "flips", "files"] {
         assert_eq!(compare(&[word, "1", "1"], b"").status.code(), Some(2));
         assert_eq!(compare(&[word, "1", "1", "/no/such/program"], b"").status.code(), Some(2));
     }
@@ -79,6 +83,7 @@ fn drivers_agree_with_this_reading() {
         ("tickets", 3000, "ticket-list", "3000 tickets"),
         ("numbers", 60, "number-list", "60 line samples"),
         ("jobs", 120, "job-list", "120 jobs"),
+        ("flips", 120, "job-list", "120 jobs and their flipped jobs"),
         ("files", 120, "file-list", "120 files"),
     ] {
         let (text, _) = driven(word, count, &[COMPARE, answers]);
@@ -118,6 +123,25 @@ fn lines_of_jobs_are_compared_whole() {
     assert!([10, 60, 110].iter().all(|at| told.contains(&format!("at seed 2 index {at}\n"))));
     assert_eq!(told.matches("the program ended by signal 11").count(), 3);
     assert!(told.contains("120 jobs, 3 differences\n") && told.ends_with("time limit: 3\n"));
+}
+
+#[test]
+fn lines_of_flipped_jobs_are_held_to_those_of_the_jobs() {
+    let wrong = |lines: &str, edit: &str| {
+        by_shell("flips", 120, &format!("compare job-list | sed '{lines}s/{edit}/'"))
+    };
+    // No job works so much, so both lines of each pair are wrong, yet alike.
+    let much = "^0 0 [0-9]*/0 0 99999999";
+    assert_eq!(wrong("", much).1, 240);
+    // In each of five runs one line of the first pair is wrong, and differs from the other.
+    for line in ["1", "2"] {
+        let (told, differences) = wrong(line, much);
+        let to = told.split("\nto: ticket ").nth(1).expect("both jobs are told");
+        let page = to.split("\ndue:\n0 0 ").nth(1).and_then(|text| text.split(' ').nth(1));
+        assert_eq!((differences, page), (10, Some("page")));
+    }
+    // A line that cannot be read differs by itself, and is held to no other.
+    assert_eq!(wrong("1~2", "$/ source changed").1, 120);
 }
 
 #[test]

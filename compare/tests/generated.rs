@@ -44,6 +44,18 @@ fn tickets_bring_every_refusal_and_every_number_of_boxes_at_the_limit() {
     assert!([0, 1, 2, 63, 64].iter().all(|count| counts.contains(count)));
 }
 
+/// Of all marks, which are those of the first job, keeps those that no job has shown so far.
+fn still_missed(missed: &mut BTreeSet<String>, index: u64, marks: Vec<(String, bool)>) {
+    for (mark, holds) in marks {
+        if index == 0 {
+            missed.insert(mark.clone());
+        }
+        if holds {
+            missed.remove(&mark);
+        }
+    }
+}
+
 #[test]
 fn jobs_bring_all_that_is_counted_and_write_only_what_they_may() {
     let (mut numbers, mut missed) = (BTreeSet::new(), BTreeSet::new());
@@ -52,14 +64,7 @@ fn jobs_bring_all_that_is_counted_and_write_only_what_they_may() {
         let outcome = run(&job);
         numbers.insert(outcome.answer.refusal);
         assert_eq!(first(&entry(&job)), Some((job.clone(), &[][..])));
-        for (mark, holds) in marks::of(&job, &outcome) {
-            if index == 0 {
-                missed.insert(mark.clone());
-            }
-            if holds {
-                missed.remove(&mark);
-            }
-        }
+        still_missed(&mut missed, index, marks::of(&job, &outcome));
         if outcome.answer.refusal != 0 {
             assert_eq!(outcome.answer.work, 0);
             assert_eq!((&outcome.output, &outcome.scratch), (&job.output, &job.scratch));
@@ -77,6 +82,18 @@ fn jobs_bring_all_that_is_counted_and_write_only_what_they_may() {
         }
     }
     assert_eq!(numbers, (0..=14).collect());
+    assert_eq!(missed, BTreeSet::new());
+}
+
+#[test]
+fn jobs_to_be_flipped_finish_and_bring_all_that_is_counted() {
+    let mut missed = BTreeSet::new();
+    for index in 0..2000 {
+        let pair = generate::flip_pair(3, index);
+        let outcomes = pair.each_ref().map(run);
+        assert!(outcomes.iter().all(|outcome| outcome.answer.refusal == 0));
+        still_missed(&mut missed, index, marks::of_flip(&pair, &outcomes[0]));
+    }
     assert_eq!(missed, BTreeSet::new());
 }
 

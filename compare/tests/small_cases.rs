@@ -1,8 +1,9 @@
-//! Document 01, "Small pages to check against", and the order in which it judges.
+//! Document 01, "Small pages to check against", with the D of wish 2, and the order in which it
+//! judges.
 
 use compare::generate::{assemble, Draft};
 use compare::job::{run, Answer, Job};
-use compare::lines::nearest_row;
+use compare::lines::{nearest_row, Lines, Pixel, Way};
 use compare::page_program::{reply, Reply};
 use compare::placement::{scratch_needed, Placement};
 use compare::ticket::{shown, HiddenBox, Ticket, CLOSE, CONNECTED, DILATE, ERODE, OPEN, PERIODIC};
@@ -145,7 +146,35 @@ fn d_tables() {
     let d = |dx, dy, last| (0..=last).map(|c| nearest_row(c, dx, dy)).collect::<Vec<i64>>();
     assert_eq!(d(5, 3, 5), [0, 1, 1, 2, 2, 3]);
     assert_eq!(d(3, -2, 3), [0, -1, -1, -2]);
-    assert_eq!(d(2, -1, 3), [0, 0, -1, -1]);
+    // Wish 2: "so (2, -1) gives 0 -1 -1 -2".
+    assert_eq!(d(2, -1, 3), [0, -1, -1, -2]);
+    assert_eq!(d(2, 1, 3), [0, 1, 1, 2]);
+    assert_eq!(d(4, -3, 5), [0, -1, -2, -2, -3, -4]);
+    // Left of the page the line goes on in the same pattern.
+    for (dx, dy) in [(5, 3), (3, -2), (2, -1), (4, -3), (1, -1), (1, 0)] {
+        for c in -20..20 {
+            assert_eq!(nearest_row(c + dx, dx, dy), nearest_row(c, dx, dy) + dy);
+            assert_eq!(nearest_row(c, dx, -dy), -nearest_row(c, dx, dy));
+        }
+    }
+}
+
+#[test]
+fn steep_lines_step_likewise() {
+    let columns = |dx, dy, phase| {
+        let lines = Lines { kind: CONNECTED, dx, dy, phase };
+        let mut at = Pixel { column: 0, row: 0 };
+        [0, 1, 2, 3].map(|row| {
+            assert_eq!(at.row, row);
+            let column = at.column;
+            at = lines.step(Way::Ahead, at);
+            column
+        })
+    };
+    assert_eq!(columns(-1, 2, 0), [0, -1, -1, -2]);
+    assert_eq!(columns(1, 2, 0), [0, 1, 1, 2]);
+    assert_eq!(columns(-1, 2, 1), [0, 0, -1, -1]);
+    assert_eq!(columns(-2, 3, 0), [0, -1, -1, -2]);
 }
 
 #[test]

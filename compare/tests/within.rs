@@ -46,10 +46,12 @@ fn a_line_stays_nearest_to_the_true_line() {
         let lines = Lines { kind, dx, dy, phase: 0 };
         for k in 0..sides.width.min(50) {
             let at = (0..k).fold(start, |at, _| lines.step(Way::Ahead, at));
-            // Twice the distance along the short axis, times the long component.
-            let off = 2 * (at.row * dx - at.column * dy) * if dy > dx { -1 } else { 1 };
-            let long = dx.max(dy);
-            let nearest = -long < off && off <= long;
+            // Twice the distance past the true line along the minor axis, times the major
+            // component; past it is away from zero, where a tie goes.
+            let (major, minor) = lines.major_and_minor();
+            let past = if lines.shallow() { 1 } else { -1 } * if minor < 0 { -1 } else { 1 };
+            let off = 2 * (at.row * dx - at.column * dy) * past;
+            let nearest = -major < off && off <= major;
             assert!(if kind == CONNECTED { nearest } else { off == 0 }, "({dx}, {dy}) at {at:?}");
         }
     }

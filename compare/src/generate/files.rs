@@ -78,7 +78,8 @@ fn page(random: &mut Random, kinds: &mut Vec<&'static str>) -> (u16, u16, Option
         let (ticket, width, height) = jobs::long_ticket(random);
         return (width, height, Some(ticket));
     }
-    (random.between(1, 12) as u16, random.between(1, 12) as u16, None)
+    let (width, height) = jobs::small_sides(random);
+    (width, height, None)
 }
 
 /// The sides of a file that is read.

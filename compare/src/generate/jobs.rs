@@ -19,11 +19,20 @@ fn fitting_job(random: &mut Random) -> Job {
     let (ticket, width, height) = if random.one_in(60) {
         long_ticket(random)
     } else {
-        let (width, height) = (random.between(1, 12) as u16, random.between(1, 12) as u16);
+        let (width, height) = small_sides(random);
         let any = Make::any(random);
         let make = random.pick(&[Make::Valid, Make::Valid, Make::Valid, Make::Boundary, any]);
         (ticket_for(random, width, height, make), width, height)
     };
+    lent(random, ticket, width, height)
+}
+
+pub fn small_sides(random: &mut Random) -> (u16, u16) {
+    (random.between(1, 12) as u16, random.between(1, 12) as u16)
+}
+
+/// A job with this ticket on pages of these sides, which lie in trays they fit.
+pub fn lent(random: &mut Random, ticket: Vec<u8>, width: u16, height: u16) -> Job {
     let (width, height) = (u64::from(width), u64::from(height));
     let (source_page, source_length) = placed(random, width, height);
     let (output_page, output_length) = placed(random, width, height);
