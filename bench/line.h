@@ -25,12 +25,12 @@ static inline bool has_one_shape(struct slope slope)
     return abs(slope.dx) <= 1 && abs(slope.dy) <= 1;
 }
 
-/* D of the law: how far the line through the corner has gone sideways, rounded, ties to the larger. */
+/* D of the law: how far the line through the corner has gone sideways, rounded, ties away from zero. */
 static inline int line_shift(struct slope slope, int at)
 {
     int major = is_steep(slope) ? slope.dy : slope.dx, minor = is_steep(slope) ? slope.dx : slope.dy;
-    int above = 2 * at * minor + major, below = 2 * major;
-    return above / below - (above % below < 0); /* C rounds to zero, the law downwards */
+    int size = (2 * at * abs(minor) + major) / (2 * major);
+    return minor < 0 ? -size : size;
 }
 
 static inline struct spot step_from(struct slope slope, struct spot from, int steps)

@@ -22,8 +22,8 @@
 #include <stdint.h>
 #include <string.h>
 
-#define SOTRUGLA_VERSION "0.3.0"
-#define SOTRUGLA_VERSION_NUMBER 3000 /* 1000000 * major + 1000 * minor + patch */
+#define SOTRUGLA_VERSION "0.4.0"
+#define SOTRUGLA_VERSION_NUMBER 4000 /* 1000000 * major + 1000 * minor + patch */
 
 #if SIZE_MAX != UINT64_MAX
 #error "Sotrugla is for machines whose sizes are 64-bit numbers"
@@ -86,7 +86,9 @@ struct sotrugla_outcome sotrugla_run(const uint8_t *ticket, size_t ticket_length
  * 0 where a side is not 1 to 8192: such a page is refused (10). */
 size_t sotrugla_scratch_needed(size_t width, size_t height);
 
-/* The operations and the lines that a ticket may name. */
+/* The operations and the lines that a ticket may name. Rising and falling lines are mirror images: for a
+ * page and boxes flipped top to bottom with dy negated (left to right with dx negated where the vector is
+ * steep), the result is the flipped result, and the work is the same. */
 enum { SOTRUGLA_ERODE = 1, SOTRUGLA_DILATE = 2, SOTRUGLA_OPEN = 3, SOTRUGLA_CLOSE = 4 };
 enum { SOTRUGLA_CONNECTED = 1, SOTRUGLA_PERIODIC = 2 };
 

@@ -18,7 +18,9 @@ const OPERATIONS: [Operation; 4] =
 /// The lines along which a page is filtered.
 ///
 /// The vector is shallow (dx at least 1, dy from -dx to dx) or steep (dy at least 1, dx between -dy and
-/// dy), each component within -255 to 255.
+/// dy), each component within -255 to 255. Rising and falling lines are mirror images: for a page and boxes
+/// flipped top to bottom with dy negated (left to right with dx negated where the vector is steep), the
+/// result is the flipped result, and the work is the same.
 #[derive(Clone, Copy, Debug, PartialEq, Eq)]
 pub enum Line {
     /// Bresenham's line; dx and dy have no common divisor above 1. The phase is below the larger of

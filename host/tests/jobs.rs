@@ -51,6 +51,23 @@ fn a_finished_page_is_white_where_its_ticket_hides() {
     }
 }
 
+/// Case 12 of the law, and its flip: a tie goes away from where a line starts, upwards and downwards alike.
+#[test]
+fn a_flipped_page_comes_out_flipped() {
+    let page = Page::alone(3, 3);
+    let dilated = |dy, pixels: [u8; 9]| {
+        let ticket = Ticket::new(Operation::Dilate, Line::connected(2, dy), 2).with_origin(1);
+        let (mut output, mut scratch) = ([0; 9], vec![0; page.scratch_needed()]);
+        let ticket = ticket.encode();
+        let work = filter(&ticket, page, &pixels, page.spot(), &mut output, &mut scratch);
+        (work, output)
+    };
+    let rising = dilated(1, [1, 2, 3, 4, 5, 6, 7, 8, 9]);
+    assert_eq!(rising, (Ok(8), [5, 3, 3, 8, 6, 6, 7, 9, 9]));
+    let falling = dilated(-1, [7, 8, 9, 4, 5, 6, 1, 2, 3]);
+    assert_eq!(falling, (Ok(8), [7, 9, 9, 8, 6, 6, 5, 3, 3]));
+}
+
 /// The refusal of a job on the row, which must leave output and scratch as they were.
 fn refused(ticket: &TicketBytes, page: Page, lengths: [usize; 3]) -> (Refusal, u64) {
     let mut output = vec![7; lengths[1]];

@@ -26,7 +26,7 @@ where its size can be known, as on Linux, and elsewhere may end the process.
 """
 
 # Before the imports: the library is held to it as it is loaded.
-__version__ = "0.3.0"
+__version__ = "0.4.0"
 
 from .arrays import closing, dilation, erosion, opening
 from .files import Pgm, Written, read_pgm, run_pgm

@@ -37,6 +37,9 @@ class Ticket:
     """A ticket to be encoded, or as read. Its origin is the segment's step 0 unless said otherwise; erosion, dilation,
     opening and closing build tickets whose origin is the segment's middle.
 
+    Rising and falling lines are mirror images: for a page and boxes flipped top to bottom with dy negated (left to
+    right with dx negated where the vector is steep), the result is the flipped result, and the work is the same.
+
     Whether its values are allowed is for the proved reader to say; a value that has no place in its field raises
     OverflowError at encoding, and what is no whole number TypeError.
 

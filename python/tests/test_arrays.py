@@ -21,6 +21,10 @@ def pixels():
     return memoryview(greys(WIDTH, HEIGHT)).cast("B", [HEIGHT, WIDTH])
 
 
+def page_of(rows):
+    return memoryview(b"".join(map(bytes, rows))).cast("B", [len(rows), len(rows[0])])
+
+
 def in_a_tray(job, page):
     """The rows of the page as the job on a tray gives them."""
     height, width = page.shape
@@ -47,6 +51,17 @@ class Buffers(unittest.TestCase):
             job = ticket(operation, PERIODIC, dx=2, dy=-2, length=4, origin=3)
             found = name(pixels(), along=(2, -2), length=4, origin=3, periodic=True)
             self.assertEqual(found.tolist(), in_a_tray(job, pixels()))
+
+    def test_flips(self):
+        # (4, 3) and (1, 2) have ties, which go away from where the line starts, upwards and downwards alike.
+        for name in FILTERS.values():
+            rising = name(pixels(), along=(4, 3), length=4, phase=1, hide=[(2, 1, 3, 2)])
+            falling = name(page_of(pixels().tolist()[::-1]), along=(4, -3), length=4, phase=1, hide=[(2, 4, 3, 2)])
+            self.assertEqual(falling.tolist(), rising.tolist()[::-1])
+            self.assertNotEqual(falling.tolist(), rising.tolist())
+            right = name(pixels(), along=(1, 2), length=4, hide=[(2, 1, 3, 2)])
+            left = name(page_of([row[::-1] for row in pixels().tolist()]), along=(-1, 2), length=4, hide=[(8, 1, 3, 2)])
+            self.assertEqual(left.tolist(), [row[::-1] for row in right.tolist()])
 
     def test_result_is_new(self):
         room = bytearray(pixels().tobytes())

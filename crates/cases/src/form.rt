@@ -8,9 +8,11 @@ pub const BOXED: usize = 41;
 
 pub const EMPTY: usize = 0;
 
+// A component of the vector is two bytes: dx is below 256 and has no upper one.
 pub struct Line {
     kind: u8,
     dx: u8,
+    dy_upper: u8,
     dy: u8,
     phase: u8,
 }
@@ -19,8 +21,20 @@ pub fn connected(dx: u8, dy: u8, phase: u8) -> Line {
     Line {
         kind: 1,
         dx: dx,
+        dy_upper: 0,
         dy: dy,
         phase: phase,
+    }
+}
+
+// The connected line (dx, -1), in two's complement.
+pub fn falling(dx: u8) -> Line {
+    Line {
+        kind: 1,
+        dx: dx,
+        dy_upper: 255,
+        dy: 255,
+        phase: 0,
     }
 }
 
@@ -28,6 +42,7 @@ pub fn periodic(dx: u8, dy: u8) -> Line {
     Line {
         kind: 2,
         dx: dx,
+        dy_upper: 0,
         dy: dy,
         phase: 0,
     }
@@ -51,6 +66,7 @@ pub fn ticket(operation: u8, line: Line, length: usize, origin: u8) -> [u8; 41]
     bytes[3] = operation;
     bytes[7] = line.kind;
     bytes[12] = line.dx;
+    bytes[13] = line.dy_upper;
     bytes[14] = line.dy;
     bytes[18] = (length / 256) as u8;
     bytes[19] = (length % 256) as u8;

@@ -1,9 +1,9 @@
-// Runs the small pages of document 01 through the job, cases 1 to 15, and prints a line for each job: `case N: done
-// W: PIXELS`, rows parted by ` / `, or `case N: refused R at P`. Where a case has several jobs, a word behind its
-// number tells them apart. `stdout` holds what the document says, and work that it does not state is counted by its
-// rule; but the lines of cases 1, 8, 10 and 11 and of the short tray had been seen from this program before they
-// were stored. The same cases stand apart from it in the proved table (job/specs/Cases.antt) and in the tests of
-// the second program (compare/tests/small_cases.rs).
+// Runs the small pages of document 01 through the job, cases 1 to 15, and case 12 flipped as document 02, wish 2, has
+// it, and prints a line for each job: `case N: done W: PIXELS`, rows parted by ` / `, or `case N: refused R at P`. Where
+// a case has several jobs, a word behind its number tells them apart. `stdout` holds what the documents say, and work
+// that they do not state is counted by the rule; but the lines of cases 1, 8, 10 and 11 and of the short tray had been
+// seen from this program before they were stored. The same cases stand apart from it in the proved table
+// (worked/specs/Cases.antt) and in the tests of the second program (compare/tests/small_cases.rs, flips.rs).
 mod form;
 mod text;
 
@@ -69,6 +69,13 @@ fn square(name: &[u8], bytes: [u8; 41]) {
     run(name, bytes, form::BARE, page, 3, &mut output);
 }
 
+// A case on the same rows flipped top to bottom.
+fn flipped_square(name: &[u8], bytes: [u8; 41]) {
+    let mut output = [0u8; 9];
+    let page = b"\x07\x08\x09\x04\x05\x06\x01\x02\x03";
+    run(name, bytes, form::BARE, page, 3, &mut output);
+}
+
 // A case whose source tray has a byte less than the row 9 1 5.
 fn short_tray(name: &[u8], bytes: [u8; 41]) {
     let mut output = [0u8; 3];
@@ -96,6 +103,7 @@ fn cases_on_the_square() {
     square(b"11", ticket(ERODE, form::periodic(1, 1), 3, 1));
     square(b"12", ticket(DILATE, form::connected(2, 1, 0), 2, 1));
     square(b"13", ticket(DILATE, form::connected(2, 1, 1), 2, 1));
+    flipped_square(b"12 flipped", ticket(DILATE, form::falling(2), 2, 1));
 }
 
 fn cases_at_the_limits() {

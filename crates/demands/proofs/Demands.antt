@@ -9,6 +9,8 @@ use Rattle.demands.proofs.Reach as reaching
 use Rattle.demands.proofs.ExactTrays as trays
 use Rattle.demands.proofs.Exact as exact
 use Rattle.demands.proofs.ExactJob as job
+use Rattle.demands.proofs.Flip as flip
+use Rattle.demands.proofs.FlipJob as flips
 use Rattle.demands.proofs.Files as files
 use Rattle.demands.proofs.ExactFiles as exactly
 
@@ -43,6 +45,16 @@ demands =
       clear-steps = trays.clear-steps;
       exact-reach = exact.exact-reach;
       exact-job-reach = job.exact-job-reach;
+      flipped-page = flip.flipped-page;
+      flipped-work = flip.flipped-work;
+      flipped-answer = flips.flipped-answer;
+      flipped-job = flips.flipped-job;
+      flipped-job-work = flips.flipped-job-work;
+      flipped-file = flips.flipped-file;
+      flipped-vector = flips.flipped-vector;
+      flipped-boxes = flips.flipped-boxes;
+      flipped-back = flips.flipped-back;
+      level-line = flips.level-line;
       file-output-kept = files.file-output-kept;
       file-output-length = files.file-output-length;
       file-scratch-kept = files.file-scratch-kept;

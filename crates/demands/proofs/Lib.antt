@@ -12,6 +12,12 @@ mod Work
 -- the reach
 mod Windows
 mod Reach
+-- the flip
+mod FlipViews
+mod FlipBoxes
+mod Flip
+mod FlipJob
+mod FlipWorked
 -- jobs that take a file
 mod Files
 -- the exact reach

@@ -10,6 +10,8 @@ use Rattle.demands.specs.Work.{FinishedTwoPasses}
 use Rattle.demands.specs.Near.{NearIn, NearSelf, NearStep, NearBack}
 use Rattle.demands.specs.Reach.{Reach, PageAlone, HiddenWhite}
 use Rattle.demands.specs.Exact.{ClearSteps, ExactReach, ExactJobReach}
+use Rattle.demands.specs.Flip.{FlippedPage, FlippedWork, FlippedAnswer, FlippedJob, FlippedJobWork, FlippedFile}
+use Rattle.demands.specs.Flip.{FlippedVector, FlippedBoxes, FlippedBack, LevelLine}
 use Rattle.demands.specs.Files.{FileOutputKept, FileOutputLength, FileScratchKept, FileScratchLength}
 use Rattle.demands.specs.Files.{FileScratchZero, FileRefusedOutput, FileRefusedScratch, FileRefusedWork}
 use Rattle.demands.specs.Files.{FileReadsBack, FilePageBack, FileHidden, FileWork, FileOnePass}
@@ -49,7 +51,18 @@ pub record Demands : Type 0 where
   pub clear-steps : ClearSteps
   pub exact-reach : ExactReach
   pub exact-job-reach : ExactJobReach
-  -- the same of a job on a file. 1. it writes the file and nothing else, and what it wrote reads back
+  -- a flipped page, filtered with the flipped ticket, is the flipped result, for the same work
+  pub flipped-page : FlippedPage
+  pub flipped-work : FlippedWork
+  pub flipped-answer : FlippedAnswer
+  pub flipped-job : FlippedJob
+  pub flipped-job-work : FlippedJobWork
+  pub flipped-file : FlippedFile
+  pub flipped-vector : FlippedVector
+  pub flipped-boxes : FlippedBoxes
+  pub flipped-back : FlippedBack
+  pub level-line : LevelLine
+  -- the same demands on a job on a file. 1. it writes the file and nothing else, and what it wrote reads back
   pub file-output-kept : FileOutputKept
   pub file-output-length : FileOutputLength
   pub file-scratch-kept : FileScratchKept

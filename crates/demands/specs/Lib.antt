@@ -5,5 +5,6 @@ pub mod Near
 pub mod Reach
 pub mod Exact
 pub mod Work
+pub mod Flip
 pub mod Files
 pub mod Demands

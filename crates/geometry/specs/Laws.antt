@@ -469,6 +469,21 @@ module _ (l : Line) (e : shallow (l .dx) (l .dy) || steep (l .dx) (l .dy) ≡ tr
   pub flipped-ahead : (H W M m : ℕ) → m < W → ahead (flipped l) H W M (mirrored true W m) ≡ ahead l H W M m
   flipped-ahead H W M m h = flip.ahead-flipped l e H W M m h
 
+-- neither component changes its size, nor does the line its kind and its phase
+pub flipped-dx : (l : Line) → natAbs (flipped l .dx) ≡ natAbs (l .dx)
+flipped-dx l = flip.dx-flipped l
+
+pub flipped-dy : (l : Line) → natAbs (flipped l .dy) ≡ natAbs (l .dy)
+flipped-dy l = flip.dy-flipped l
+
+pub flipped-kind : (l : Line) → flipped l .periodic ≡ l .periodic
+unfolding flipped
+flipped-kind l = refl
+
+pub flipped-phase : (l : Line) → flipped l .phase ≡ l .phase
+unfolding flipped
+flipped-phase l = refl
+
 -- a level line is its own negation
 pub flipped-level : (l : Line) → minorOf (l .dx) (l .dy) ≡ pos 0 → flipped l ≡ l
 flipped-level l e = flip.flipped-level l e

@@ -152,8 +152,8 @@ pub extern "C" fn sotrugla_is_hidden(ticket: &[u8], column: usize, row: usize) -
     if hidden { 1 } else { 0 }
 }
 
-// 0.3.0: a million for the major number, a thousand for the minor one, one for the patch.
-const VERSION: u64 = 3000;
+// 0.4.0: a million for the major number, a thousand for the minor one, one for the patch.
+const VERSION: u64 = 4000;
 
 // The version of the library that runs, which need not be that of the header that a host was built with.
 #[no_mangle]

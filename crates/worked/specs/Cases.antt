@@ -128,20 +128,28 @@ row bytes work result reply =
       jobsAt = thrice;
     }
 
--- "rows 1 2 3 / 4 5 6 / 7 8 9"
-abbrev square : List ℕ → ℕ → List ℕ → Reply → Case
-square bytes work result reply =
+-- three rows of three pixels: the page, the ticket, its work and page, and the answer of its job
+abbrev squareOf : List ℕ → List ℕ → ℕ → List ℕ → Reply → Case
+squareOf pixels bytes work result reply =
     record {
       bytes = bytes;
       width = 3;
       height = 3;
-      pixels = 1 ∷ 2 ∷ 3 ∷ 4 ∷ 5 ∷ 6 ∷ 7 ∷ 8 ∷ 9 ∷ [];
+      pixels = pixels;
       missing = 0;
       page = record { work = work; pixels = result };
       reply = reply;
       pagesAt = thrice;
       jobsAt = thrice;
     }
+
+-- "rows 1 2 3 / 4 5 6 / 7 8 9"
+abbrev square : List ℕ → ℕ → List ℕ → Reply → Case
+square bytes work result reply = squareOf (1 ∷ 2 ∷ 3 ∷ 4 ∷ 5 ∷ 6 ∷ 7 ∷ 8 ∷ 9 ∷ []) bytes work result reply
+
+-- the same "flipped top to bottom"
+abbrev flippedSquare : List ℕ → ℕ → List ℕ → Reply → Case
+flippedSquare bytes work result reply = squareOf (7 ∷ 8 ∷ 9 ∷ 4 ∷ 5 ∷ 6 ∷ 1 ∷ 2 ∷ 3 ∷ []) bytes work result reply
 
 -- a row with no page: the ticket, how many bytes its tray lacks, and the answer of its job
 abbrev without : List ℕ → ℕ → Reply → Case
@@ -200,6 +208,8 @@ table =
     -- 12, 13
     ∷ square (ticket dilation 1 2 1 2 1 0) 8 (5 ∷ 3 ∷ 3 ∷ 8 ∷ 6 ∷ 6 ∷ 7 ∷ 9 ∷ 9 ∷ []) finishes
     ∷ square (ticket dilation 1 2 1 2 1 1) 8 (2 ∷ 6 ∷ 3 ∷ 5 ∷ 9 ∷ 6 ∷ 8 ∷ 8 ∷ 9 ∷ []) finishes
+    -- 12 flipped, as document 02, wish 2, has it: along (2, -1), whose -1 is 65535 in two bytes
+    ∷ flippedSquare (ticket dilation 1 2 65535 2 1 0) 8 (7 ∷ 9 ∷ 9 ∷ 8 ∷ 6 ∷ 6 ∷ 5 ∷ 3 ∷ 3 ∷ []) finishes
     -- 14
     ∷ without (ticket erosion 1 2 2 2 0 0) 0 (refuses 6 8)
     ∷ row (ticket erosion 2 2 2 2 0 0) 0 (9 ∷ 1 ∷ 5 ∷ []) finishes

@@ -35,6 +35,22 @@ times-negated t (negsuc b) = sym (negℤ-negℤ (pos (t * suc b)))
 
 -- ---- the vector
 
+either-size : (b : Bool) (z : ℤ) → natAbs (cond b (negℤ z) z) ≡ natAbs z
+either-size true z = size-negated z
+either-size false z = refl
+
+either-other : (b : Bool) (z : ℤ) → natAbs (cond b z (negℤ z)) ≡ natAbs z
+either-other true z = refl
+either-other false z = size-negated z
+
+pub dx-flipped : (l : Line) → natAbs (flipped l .dx) ≡ natAbs (l .dx)
+unfolding flipped
+dx-flipped l = either-size (steep (l .dx) (l .dy)) (l .dx)
+
+pub dy-flipped : (l : Line) → natAbs (flipped l .dy) ≡ natAbs (l .dy)
+unfolding flipped
+dy-flipped l = either-other (steep (l .dx) (l .dy)) (l .dy)
+
 -- of a vector that is steep, and of one that is shallow
 steep-negated : (dx dy : ℤ) → steep (negℤ dx) dy ≡ steep dx dy
 unfolding steep

@@ -1,9 +1,9 @@
 -- `profile::shift_size` meets its contract: the size of D never falls from the phase on.
 -- Assumes nothing.
-use Prim.Native.Nat.{_≤_, _+_}
+use mathlib.Core.Path.{sym, subst₂}
+use Prim.Native.Nat.{_≤_}
 use native.Mathlib.Omega.{arith}
 use borrow.Author.Needs.{needs}
-use Rattle.geometry.specs.Line.{nearest}
 use Rattle.geometry.specs.Laws.Nearest.{nearest-rises}
 use Rattle.geometry.proofs.profile.shift_size.Statement.{statement}
 use Rattle.geometry.proofs.profile.shift_size.Tie as tie
@@ -20,10 +20,8 @@ nearest-requires-2 c κs = search needs
 sub-result : tie.Need-sub-result
 sub-result c =
     let start = c .before .before in
-    let rises : nearest (start .args .major) (start .args .minor) (start .args .phase)
-    ≤ nearest (start .args .major) (start .args .minor) (start .args .c + start .args .phase) =
-    nearest-rises (start .args .major) (start .args .minor) (start .pre .forward) (omega arith) in
-    omega (arith, rises, c .before .nearest .ensures, c .nearest2 .ensures)
+    subst₂ _≤_ (sym (c .nearest2 .ensures)) (sym (c .before .nearest .ensures))
+    (nearest-rises (start .args .major) (start .args .minor) (start .pre .forward) (omega arith))
 
 returns : tie.Need-returns
 returns c = search needs
