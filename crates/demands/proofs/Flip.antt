@@ -1,25 +1,22 @@
 -- The flip, by column and row: of the page that a filter sees, of the finished page, of the work.
 -- Assumes nothing.
-use mathlib.Core.Path.{_≡_, refl, sym, ap, ap₂, subst, _∙_}
+use mathlib.Core.Path.{_≡_, refl, sym, ap, ap₂, _∙_}
 use mathlib.Core.Bool.{Bool, true, false, not, _&&_, cond}
 use mathlib.Core.Logic.{by-cases}
 use mathlib.Core.Option.{Option, none, some}
 use mathlib.Core.List.{List, map}
-use Prim.Native.Nat.{ℕ, _≤_, _<_}
+use Prim.Native.Nat.{ℕ, _<_}
 use native.Mathlib.Decide.{decLt}
 use native.Mathlib.Omega.{arith}
 use borrow.Author.Tests.{lt-ltb, le-ltb}
 use lib.Dec.{ltb}
 use Rattle.geometry.specs.Drift.{mirrored}
-use Rattle.geometry.specs.Flip.{flipped}
 use Rattle.geometry.specs.Laws.{mirrored-below, mirrored-rising}
-use Rattle.geometry.specs.declared.Line.{Line}
 use Rattle.ticket.specs.Laws.{Allowed}
 use Rattle.ticket.specs.declared.HiddenBox.{HiddenBox}
 use Rattle.ticket.specs.declared.Ticket.{Ticket}
 use Rattle.boxes.specs.Boxes.{hidden, boxesOf}
 use Rattle.placement.specs.Placement.{pixelIn}
-use Rattle.placement.specs.declared.Placement.{Placement}
 use Rattle.tray.specs.Turned.{downOf, acrossOf}
 use Rattle.tray.specs.Laws.{across-in}
 use Rattle.filter.specs.Seen.{View, seen, turned, runsSteep}
@@ -144,7 +141,8 @@ across-flipped false w h c r = refl
 filtered-flipped :
     (n : ℕ) (s : Segment) → Runs (s .line) → (w h : ℕ) (page page′ : View) → Flips (runsSteep (s .line)) w h page page′
     → (c r : ℕ) → c < w → r < h
-    → filtered n (flippedSegment s) page′ (mirrored (runsSteep (s .line)) w c) (mirrored (not (runsSteep (s .line))) h r)
+    → filtered n (flippedSegment s) page′ (mirrored (runsSteep (s .line)) w c)
+    (mirrored (not (runsSteep (s .line))) h r)
     ≡ filtered n s page c r
 unfolding filtered
 filtered-flipped n s e w h page page′ flips c r c-in r-in =

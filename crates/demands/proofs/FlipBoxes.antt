@@ -1,18 +1,15 @@
 -- Flipped boxes: they hide the flipped pixels, they lie on the page, and flipped again they are as they were.
 -- Assumes nothing.
 use mathlib.Core.Path.{_≡_, refl, sym, ap, ap₂, _∙_}
-use mathlib.Core.Bool.{Bool, true, false, not, _&&_, _||_, cond, false≢true}
+use mathlib.Core.Bool.{Bool, true, false, not, _&&_, _||_, false≢true}
 use mathlib.Core.List.{List, [], _∷_, map}
 use Prim.Native.Nat.{ℕ, zero, suc, _+_, _-_, _≤_, _<_}
 use native.Mathlib.Omega.{arith}
 use borrow.Author.Tests.{le-leb}
-use lib.Dec.{leb}
-use lib.ListN.{length, getD}
 use Rattle.geometry.specs.Drift.{mirrored}
-use Rattle.geometry.specs.Laws.{mirrored-falling, mirrored-rising}
 use Rattle.ticket.specs.declared.HiddenBox.{HiddenBox}
 use Rattle.boxes.specs.Boxes.{covers, hidden, boxAllowed}
-use Rattle.boxes.specs.Laws.{InBox, covers-inside, inside-covers, Lies, allowed-lies}
+use Rattle.boxes.specs.Laws.{covers-inside, inside-covers, Lies, allowed-lies}
 use Rattle.job.specs.Judging.{judgePageBoxesFrom}
 use Rattle.refusal.specs.Chain.{unless, _then_}
 use Rattle.refusal.specs.declared.Answer.{Answer}

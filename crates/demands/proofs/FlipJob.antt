@@ -1,10 +1,10 @@
 -- The flip of a job and of a job on a file: the answer, the work and what they leave; and what a flipped ticket is.
 -- Assumes nothing.
-use mathlib.Core.Path.{_≡_, refl, sym, ap, ap₂, subst, _∙_}
-use mathlib.Core.Bool.{Bool, true, false, not, _&&_, _||_, cond}
+use mathlib.Core.Path.{_≡_, sym, ap, ap₂, subst, _∙_}
+use mathlib.Core.Bool.{Bool, true, not, _&&_, _||_, cond}
 use mathlib.Core.Logic.{by-cases}
 use mathlib.Core.List.{List, map}
-use Prim.Native.Nat.{ℕ, _≤_, _<_, max}
+use Prim.Native.Nat.{ℕ, _<_, max}
 use native.Mathlib.Decide.{decLe}
 use native.Mathlib.Omega.{arith}
 use borrow.Author.Tests.{le-leb, lt-ltb}
@@ -25,7 +25,7 @@ use Rattle.ticket.specs.Reading.{shown}
 use Rattle.ticket.specs.declared.HiddenBox.{HiddenBox}
 use Rattle.ticket.specs.declared.Ticket.{Ticket}
 use Rattle.boxes.specs.Boxes.{boxesOf}
-use Rattle.placement.specs.Placement.{sourcePage, outputPage}
+use Rattle.placement.specs.Placement.{sourcePage}
 use Rattle.placement.specs.declared.Placements.{Placements}
 use Rattle.filter.specs.Seen.{runsSteep}
 use Rattle.job.specs.Order.{lineOf, pagesOf, white}
@@ -100,7 +100,9 @@ pub flipped-job-work : FlippedJobWork
 flipped-job-work ticket ticket′ p p′ n n′ work work′ bytes done done′ flip width height =
     sym (finished-job ticket′ p′ n′ work′ done′ .worked)
     ∙ ap₂ (jobWork (shown ticket′)) width height
-    ∙ flipped-work (shown ticket) (shown ticket′) (p .width) (p .height) (finished-allowed ticket p n work bytes done) flip
+    ∙ flipped-work (shown ticket) (shown ticket′) (p .width) (p .height)
+    (finished-allowed ticket p n work bytes done)
+    flip
     ∙ finished-job ticket p n work done .worked
 
 pub flipped-file : FlippedFile

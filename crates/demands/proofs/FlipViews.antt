@@ -4,15 +4,15 @@ use mathlib.Core.Path.{_≡_, refl, sym, ap, ap₂, fun-ext, _∙_}
 use mathlib.Core.Bool.{Bool, true, false, _||_, cond}
 use mathlib.Core.Logic.{_⊎_, ⊎-elim}
 use mathlib.Core.Option.{Option, none, some}
-use Prim.Native.Nat.{ℕ, suc, _+_, _-_, _≤_, _<_}
+use Prim.Native.Nat.{ℕ, suc, _+_, _-_, _<_}
 use native.Mathlib.Omega.{arith}
 use lib.Dec.{leb, eqb}
 use Rattle.geometry.specs.Vector.{shallow, steep}
 use Rattle.geometry.specs.Line.{landing, stepOf, majorAt}
-use Rattle.geometry.specs.Number.{inPage, behind, ahead}
+use Rattle.geometry.specs.Number.{inPage}
 use Rattle.geometry.specs.Drift.{mirrored}
 use Rattle.geometry.specs.Flip.{flipped}
-use Rattle.geometry.specs.Laws.{in-page-landing, out-of-page, mirrored-below, flipped-steep, flipped-step}
+use Rattle.geometry.specs.Laws.{in-page-landing, out-of-page, flipped-steep, flipped-step}
 use Rattle.geometry.specs.Laws.{flipped-major-at, flipped-landing, flipped-in-page, flipped-behind, flipped-ahead}
 use Rattle.geometry.specs.declared.Line.{Line}
 use Rattle.runs.specs.Scratch.{total}
@@ -182,4 +182,6 @@ module _ (s : Segment) (e : Runs (s .line)) where
           ≡ passWork (s .line) (cond (runsSteep (s .line)) h w) (cond (runsSteep (s .line)) w h) (s .length) a
       same a =
           ap (λ (b : Bool). passWork (flipped (s .line)) (cond b h w) (cond b w h) (s .length) a) steep-same
-          ∙ pass-work-flipped (s .line) e (cond (runsSteep (s .line)) h w) (cond (runsSteep (s .line)) w h) (s .length) a
+          ∙ pass-work-flipped (s .line) e (cond (runsSteep (s .line)) h w) (cond (runsSteep (s .line)) w h)
+          (s .length)
+          a

@@ -1,6 +1,6 @@
 -- Document 02, wish 2: "Flipping the page and its boxes (top to bottom for a shallow vector, left to right for a steep
--- one) and negating the minor component then flips the result." Said of the finished page, of the job and of the job on a
--- file, for every ticket that was read: all operations, both kinds of line, every phase and origin.
+-- one) and negating the minor component then flips the result." Said of the finished page, of the job and of the job
+-- on a file, for every ticket that was read: all operations, both kinds of line, every phase and origin.
 -- Assumes nothing.
 use mathlib.Core.Path.{_≡_}
 use mathlib.Core.Bool.{Bool, true, false, not, cond}

@@ -1,6 +1,6 @@
 -- Document 02, wish 2: "Flipping the page and its boxes (top to bottom for a shallow vector, left to right for a steep
--- one) and negating the minor component then flips the result." The line of the flipped page; a place m of a side W goes
--- to mirrored true W m (Drift).
+-- one) and negating the minor component then flips the result." The line of the flipped page; a place m of a side W
+-- goes to mirrored true W m (Drift).
 -- Assumes nothing.
 use mathlib.Core.Bool.{cond}
 use lib.IntN.{negℤ}

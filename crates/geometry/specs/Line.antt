@@ -1,6 +1,6 @@
--- Document 01, 'Lines', with the D of document 02, wish 2: where the steps of a line land. A pixel is named by its place
--- M on the major axis and its place m on the minor one (Vector). A line's steps are counted from the page's corner: a
--- pixel at M stands at step M / period of its line.
+-- Document 01, 'Lines', with the D of document 02, wish 2: where the steps of a line land. A pixel is named by its
+-- place M on the major axis and its place m on the minor one (Vector). A line's steps are counted from the page's
+-- corner: a pixel at M stands at step M / period of its line.
 -- Assumes nothing.
 use Prim.Native.Nat.{ℕ, suc, _+_, _*_, _/_, _%_}
 use mathlib.Core.Bool.{cond}

@@ -1,7 +1,7 @@
 // Lines across a page: which way they run, where each step lands, and which number a pixel has on its line.
 // The definitions stand in specs/: Vector (the two kinds of slope), Line (D, phases, steps), Number (behind, ahead),
-// Drift (the profile's size, the normal form, reach), Flip (the line of a flipped page). Laws has all that a layer above
-// may use.
+// Drift (the profile's size, the normal form, reach), Flip (the line of a flipped page). Laws has all that a layer
+// above may use.
 
 pub mod entry;
 pub mod normal;

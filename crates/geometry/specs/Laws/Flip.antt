@@ -8,9 +8,9 @@ use Prim.Native.Nat.{ℕ, zero, suc, _+_, _*_, _-_, _<_}
 use native.Mathlib.Nat.{mul-zero}
 use native.Mathlib.Decide.{decLe}
 use native.Mathlib.Omega.{arith}
-use borrow.Author.Tests.{le-leb, le-ltb, lt-ltb}
-use lib.Dec.{leb, ltb}
-use lib.IntN.{ℤ, pos, negsuc, negℤ, natAbs, subℕ, _+ℤ_, _-ℤ_, _*ℤ_, negℤ-negℤ, negℤ-+ℤ}
+use borrow.Author.Tests.{le-ltb, lt-ltb}
+use lib.Dec.{ltb}
+use lib.IntN.{ℤ, pos, negsuc, negℤ, natAbs, _+ℤ_, _-ℤ_, _*ℤ_, negℤ-negℤ, negℤ-+ℤ}
 use lib.Signed.{leZ, ltZ}
 use Rattle.geometry.specs.Vector.{shallow, steep, majorOf, minorOf}
 use Rattle.geometry.specs.Line.{shift, period, profile, place, landing, stepOf, majorAt}
@@ -233,48 +233,34 @@ module _ (l : Line) (e : shallow (l .dx) (l .dy) || steep (l .dx) (l .dy) ≡ tr
         count-same _ _ _ _ (λ s. in-page-flipped H W M m s h)
         ∙ ap (λ (t : ℕ). count (inPage l H W M m) (suc t) (H - suc t)) (step-flipped M)
 
-  -- ---- flipped again, and a level line
+-- ---- flipped again, and a level line
 
-  pub flipped-twice : flipped (flipped l) ≡ l
-  unfolding flipped
-  flipped-twice = ap anew steep-flipped′ ∙ go (steep (l .dx) (l .dy)) refl
-    where
-      x : ℤ
-      x = flipped l .dx
+-- a line of this kind and phase along another vector
+along : Line → ℤ → ℤ → Line
+along l dx dy = record { periodic = l .periodic; dx = dx; dy = dy; phase = l .phase }
 
-      y : ℤ
-      y = flipped l .dy
+pub flipped-twice : (l : Line) → shallow (l .dx) (l .dy) || steep (l .dx) (l .dy) ≡ true → flipped (flipped l) ≡ l
+unfolding flipped along
+flipped-twice l e =
+    ap (λ (b : Bool). along l (cond b (negℤ (flipped l .dx)) (flipped l .dx)) (cond b (flipped l .dy) (negℤ (flipped l .dy))))
+    (steep-flipped l e)
+    ∙ again (steep (l .dx) (l .dy))
+  where
+    again : (b : Bool)
+        → along l (cond b (negℤ (cond b (negℤ (l .dx)) (l .dx))) (cond b (negℤ (l .dx)) (l .dx)))
+        (cond b (cond b (l .dy) (negℤ (l .dy))) (negℤ (cond b (l .dy) (negℤ (l .dy)))))
+        ≡ l
+    again true = ap (λ (z : ℤ). along l z (l .dy)) (negℤ-negℤ (l .dx))
+    again false = ap (along l (l .dx)) (negℤ-negℤ (l .dy))
 
-      anew : Bool → Line
-      anew b =
-          record { periodic = l .periodic; dx = cond b (negℤ x) x; dy = cond b y (negℤ y); phase = l .phase }
-
-      steep-flipped′ : steep x y ≡ steep (l .dx) (l .dy)
-      steep-flipped′ = steep-flipped l e
-
-      go : (b : Bool) → steep (l .dx) (l .dy) ≡ b → anew b ≡ l
-      go true f = ap₂ line (ap negℤ (ap (λ (b : Bool). cond b (negℤ (l .dx)) (l .dx)) f) ∙ negℤ-negℤ (l .dx))
-          (ap (λ (b : Bool). cond b (l .dy) (negℤ (l .dy))) f)
-        where
-          line : ℤ → ℤ → Line
-          line dx dy = record { periodic = l .periodic; dx = dx; dy = dy; phase = l .phase }
-      go false f = ap₂ line (ap (λ (b : Bool). cond b (negℤ (l .dx)) (l .dx)) f)
-          (ap negℤ (ap (λ (b : Bool). cond b (l .dy) (negℤ (l .dy))) f) ∙ negℤ-negℤ (l .dy))
-        where
-          line : ℤ → ℤ → Line
-          line dx dy = record { periodic = l .periodic; dx = dx; dy = dy; phase = l .phase }
+still : (z : ℤ) → z ≡ pos 0 → negℤ z ≡ z
+still z e = rw e
 
 pub flipped-level : (l : Line) → minorOf (l .dx) (l .dy) ≡ pos 0 → flipped l ≡ l
-unfolding flipped minorOf
-flipped-level l e = go (steep (l .dx) (l .dy)) e
+unfolding flipped along minorOf
+flipped-level l e = level (steep (l .dx) (l .dy)) e
   where
-    line : ℤ → ℤ → Line
-    line dx dy = record { periodic = l .periodic; dx = dx; dy = dy; phase = l .phase }
-
-    still : (z : ℤ) → z ≡ pos 0 → negℤ z ≡ z
-    still z f = rw f
-
-    go : (b : Bool) → cond b (l .dx) (l .dy) ≡ pos 0
-        → line (cond b (negℤ (l .dx)) (l .dx)) (cond b (l .dy) (negℤ (l .dy))) ≡ l
-    go true f = ap (λ (z : ℤ). line z (l .dy)) (still (l .dx) f)
-    go false f = ap (λ (z : ℤ). line (l .dx) z) (still (l .dy) f)
+    level : (b : Bool) → cond b (l .dx) (l .dy) ≡ pos 0
+        → along l (cond b (negℤ (l .dx)) (l .dx)) (cond b (l .dy) (negℤ (l .dy))) ≡ l
+    level true f = ap (λ (z : ℤ). along l z (l .dy)) (still (l .dx) f)
+    level false f = ap (along l (l .dx)) (still (l .dy) f)

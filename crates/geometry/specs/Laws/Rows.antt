@@ -37,7 +37,8 @@ unfolding amount
 amount-zero true a b i = zero-mul b
 amount-zero false a b i = rw (zero-add, sub-self)
 
-amount-rises : (periodic : Bool) (a b i : ℕ) {s t : ℕ} → 1 ≤ a → s ≤ t → amount periodic a b i s ≤ amount periodic a b i t
+amount-rises : (periodic : Bool) (a b i : ℕ) {s t : ℕ} → 1 ≤ a → s ≤ t
+    → amount periodic a b i s ≤ amount periodic a b i t
 unfolding amount
 amount-rises true a b i h k = mul-le-mul-right b k
 amount-rises false a b i {s} {t} h k =
