@@ -109,7 +109,8 @@ along-mirrors true w h page page′ flips =
           by-cases
           (decLt M h)
           (λ M-in. ap (page′ (mirrored true w m)) (sym (mirrored-rising h M)) ∙ flips .there m M m-in M-in)
-          (λ past. flips .off′ .beside (mirrored true w m) M (omega arith) ∙ sym (flips .off .beside m M (omega arith)));
+          (λ past.
+          flips .off′ .beside (mirrored true w m) M (omega arith) ∙ sym (flips .off .beside m M (omega arith)));
     }
 along-mirrors false w h page page′ flips =
     record {

@@ -242,10 +242,15 @@ along l dx dy = record { periodic = l .periodic; dx = dx; dy = dy; phase = l .ph
 pub flipped-twice : (l : Line) → shallow (l .dx) (l .dy) || steep (l .dx) (l .dy) ≡ true → flipped (flipped l) ≡ l
 unfolding flipped along
 flipped-twice l e =
-    ap (λ (b : Bool). along l (cond b (negℤ (flipped l .dx)) (flipped l .dx)) (cond b (flipped l .dy) (negℤ (flipped l .dy))))
-    (steep-flipped l e)
+    ap (λ (b : Bool). along l (cond b (negℤ dx′) dx′) (cond b dy′ (negℤ dy′))) (steep-flipped l e)
     ∙ again (steep (l .dx) (l .dy))
   where
+    dx′ : ℤ
+    dx′ = flipped l .dx
+
+    dy′ : ℤ
+    dy′ = flipped l .dy
+
     again : (b : Bool)
         → along l (cond b (negℤ (cond b (negℤ (l .dx)) (l .dx))) (cond b (negℤ (l .dx)) (l .dx)))
         (cond b (cond b (l .dy) (negℤ (l .dy))) (negℤ (cond b (l .dy) (negℤ (l .dy)))))
