@@ -1,7 +1,7 @@
 -- `profile::shift_size` meets its contract: the size of D never falls from the phase on.
 -- Assumes nothing.
-use mathlib.Core.Path.{sym, subst₂}
-use Prim.Native.Nat.{_≤_}
+use mathlib.Core.Path.{sym, ap₂, subst₂}
+use Prim.Native.Nat.{_-_, _≤_}
 use native.Mathlib.Omega.{arith}
 use borrow.Author.Needs.{needs}
 use Rattle.geometry.specs.Laws.Nearest.{nearest-rises}
@@ -24,7 +24,7 @@ sub-result c =
     (nearest-rises (start .args .major) (start .args .minor) (start .pre .forward) (omega arith))
 
 returns : tie.Need-returns
-returns c = search needs
+returns c = ap₂ _-_ (c .before .nearest .ensures) (c .nearest2 .ensures)
 
 pub shift-size-spec : {M : Type 1} → statement M
 shift-size-spec = tie.close (tie.spec add-nearest nearest-requires nearest-requires-2 sub-result returns)
