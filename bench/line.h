@@ -25,7 +25,8 @@ static inline bool has_one_shape(struct slope slope)
     return abs(slope.dx) <= 1 && abs(slope.dy) <= 1;
 }
 
-/* D of the law: how far the line through the corner has gone sideways, rounded, ties away from zero. */
+/* D of the law: how far the line through the corner has gone sideways, rounded, ties away from zero. At places before
+ * the corner it is not D, but a step there is off the page whatever this says. */
 static inline int line_shift(struct slope slope, int at)
 {
     int major = is_steep(slope) ? slope.dy : slope.dx, minor = is_steep(slope) ? slope.dx : slope.dy;

@@ -1,6 +1,7 @@
 //! Wish 2: "Flipping the page and its boxes (top to bottom for a shallow vector, left to right for
 //! a steep one) and negating the minor component then flips the result."
 
+use crate::filter::hidden;
 use crate::job::Job;
 use crate::job_list;
 use crate::lines::{Lines, Pixel, Sides};
@@ -53,9 +54,9 @@ impl Flip {
         let mut flipped = ticket.to_vec();
         change(&mut flipped[minor..], |component| component.wrapping_neg());
         for field in flipped[BOXES..].chunks_mut(BOX_FIELD) {
-            let past = u16::from_be_bytes([field[extent], field[extent + 1]]);
+            let extent = u16::from_be_bytes([field[extent], field[extent + 1]]);
             // What lay past the box's far edge now lies before it.
-            change(&mut field[near..], |near| side as u16 - near - past);
+            change(&mut field[near..], |near| side as u16 - near - extent);
         }
         flipped
     }
@@ -67,18 +68,20 @@ fn change(bytes: &mut [u8], to: impl Fn(u16) -> u16) {
     bytes[..2].copy_from_slice(&number.to_be_bytes());
 }
 
-/// The flip of a job that finishes.
-fn of_job(job: &Job) -> Flip {
-    Flip::of(&ticket::read(&job.ticket).expect("a job that finishes has a ticket that is read"))
+/// The ticket of a job that finishes.
+fn ticket_of(job: &Job) -> Ticket {
+    ticket::read(&job.ticket).expect("a job that finishes has a ticket that is read")
 }
 
 /// The flipped job of a job that finishes. It takes over what is lent elsewhere for a page of the
-/// same sides, all but the ticket and the bytes of the source page.
+/// same sides, all but the ticket and the unhidden bytes of the source page: what lies under a box
+/// is absent, so it need not be flipped.
 pub fn flipped(job: &Job, elsewhere: Job) -> Job {
-    let (flip, sides) = (of_job(job), job.sides());
+    let (ticket, sides) = (ticket_of(job), job.sides());
+    let (flip, boxes) = (Flip::of(&ticket), ticket.hidden_boxes());
     let mut flipped = Job { ticket: flip.ticket(sides, &job.ticket), ..elsewhere };
     let (from, to) = (job.source_page(), flipped.source_page());
-    for at in sides.pixels() {
+    for at in sides.pixels().into_iter().filter(|&at| !hidden(boxes, at)) {
         flipped.source[to.byte(flip.pixel(sides, at))] = job.source[from.byte(at)];
     }
     flipped
@@ -88,7 +91,7 @@ pub fn flipped(job: &Job, elsewhere: Job) -> Job {
 /// must be the same. Nothing if one of them cannot be read: it is not the line due then, and told
 /// as such.
 pub fn seen([job, flipped]: &[Job; 2], printed: [&[u8]; 2]) -> Option<[String; 2]> {
-    let (flip, pixels) = (of_job(job), job.sides().pixels());
+    let (flip, pixels) = (Flip::of(&ticket_of(job)), job.sides().pixels());
     let turned: Vec<Pixel> = pixels.iter().map(|&at| flip.pixel(job.sides(), at)).collect();
     let due = job_list::page_seen(job, printed[0], &turned)?;
     Some([due, job_list::page_seen(flipped, printed[1], &pixels)?])

@@ -45,7 +45,7 @@ pub enum Way {
 
 /// D(c) for a shallow vector, as wish 2 has it: "D takes the sign of dy and rounds the size with
 /// ties away from zero, so (2, -1) gives 0 -1 -1 -2". This replaces 01's floor, which sent a tie to
-/// the larger row; they differ only where dy is below 0.
+/// the larger row; they differ only at a tie where dy is below 0.
 ///
 /// The size is c·abs dy / dx. Document 01 asks for D at a page's columns and at phases, never below
 /// 0, and there adding one half and dropping the fraction sends a tie away from zero. A walk behind

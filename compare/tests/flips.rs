@@ -1,9 +1,10 @@
 //! Wish 2: flipping the page and its boxes and negating the minor component flips the result.
 
-use compare::filter::filtered;
-use compare::flip::{flipped, Flip};
+use compare::filter::{filtered, hidden};
+use compare::flip::{flipped, seen, Flip};
 use compare::generate::{flip_pair, Draft};
-use compare::job::{run, Job, WHITE};
+use compare::job::{run, Job, Outcome, WHITE};
+use compare::job_list::line;
 use compare::lines::{nearest_row, Pixel, Sides};
 use compare::random::Random;
 use compare::ticket::{read, HiddenBox, Ticket};
@@ -13,15 +14,17 @@ const NINE: [u8; 9] = [1, 2, 3, 4, 5, 6, 7, 8, 9];
 const THREE: Sides = Sides { width: 3, height: 3 };
 
 /// A page, row by row, flipped.
-fn page(flip: Flip, sides: Sides, greys: &[u8]) -> Vec<u8> {
+fn page<T: Copy>(flip: Flip, sides: Sides, greys: &[T]) -> Vec<T> {
     let place = |at: Pixel| (at.row * sides.width + at.column) as usize;
     sides.pixels().into_iter().map(|at| greys[place(flip.pixel(sides, at))]).collect()
 }
 
-/// The source page of a job.
-fn source(job: &Job) -> Vec<u8> {
-    let bytes = job.sides().pixels().into_iter().map(|at| job.source_page().byte(at));
-    bytes.map(|byte| job.source[byte]).collect()
+/// The source page of a job as a filter sees it: nothing under a box.
+fn source(job: &Job) -> Vec<Option<u8>> {
+    let ticket = read(&job.ticket).expect("it finishes");
+    let seen =
+        |at| (!hidden(ticket.hidden_boxes(), at)).then(|| job.source[job.source_page().byte(at)]);
+    job.sides().pixels().into_iter().map(seen).collect()
 }
 
 /// A job on a blank page elsewhere, of the same sides as this one.
@@ -110,6 +113,29 @@ fn a_job_flipped_twice_is_the_job() {
         on_page.for_each(|byte| around[byte] = 0);
         assert_eq!(around, blank(&job).source);
         assert_eq!(Job { source: job.source.clone(), ..twice }, job);
+    }
+}
+
+#[test]
+fn the_two_lines_of_a_pair_are_held_to_one_another_pixel_by_pixel() {
+    let short = |pair: &[Job; 2]| pair[1].output.len() < 300;
+    let pairs: Vec<[Job; 2]> = (0..60).map(|index| flip_pair(6, index)).filter(short).collect();
+    assert!(pairs.len() > 20);
+    for pair in pairs {
+        let outcomes = pair.each_ref().map(run);
+        let held = |outcomes: &[Outcome; 2]| {
+            let lines = outcomes.each_ref().map(line);
+            let [job, flipped] = seen(&pair, lines.each_ref().map(|line| line.as_bytes())).unwrap();
+            job == flipped
+        };
+        assert!(held(&outcomes));
+        // One byte of the second output is wrong: that is told if it is one of the page's.
+        let (page, pixels) = (pair[1].output_page(), pair[1].sides().pixels());
+        for byte in 0..outcomes[1].output.len() {
+            let mut wrong = outcomes.clone();
+            wrong[1].output[byte] ^= 1;
+            assert_eq!(held(&wrong), pixels.iter().all(|&at| page.byte(at) != byte));
+        }
     }
 }
 

@@ -1,4 +1,5 @@
--- A pixel by column and row, and by its places on the two axes. Here alone the exchange of the axes is opened.
+-- A pixel by column and row, and by its places on the two axes. Here, and for pages that are flipped
+-- in Flip, the exchange of the axes is opened.
 -- Assumes nothing.
 use mathlib.Core.Path.{_≡_, refl}
 use mathlib.Core.Bool.{Bool, true, false}

@@ -51,6 +51,7 @@ demands =
       flipped-job = flips.flipped-job;
       flipped-job-work = flips.flipped-job-work;
       flipped-file = flips.flipped-file;
+      flipped-file-work = flips.flipped-file-work;
       flipped-vector = flips.flipped-vector;
       flipped-boxes = flips.flipped-boxes;
       flipped-back = flips.flipped-back;

@@ -1,15 +1,13 @@
 -- The flip, by column and row: of the page that a filter sees, of the finished page, of the work.
 -- Assumes nothing.
 use mathlib.Core.Path.{_≡_, refl, sym, ap, ap₂, _∙_}
-use mathlib.Core.Bool.{Bool, true, false, not, _&&_, cond}
+use mathlib.Core.Bool.{Bool, true, false, not}
 use mathlib.Core.Logic.{by-cases}
-use mathlib.Core.Option.{Option, none, some}
+use mathlib.Core.Option.{Option, some}
 use mathlib.Core.List.{List, map}
 use Prim.Native.Nat.{ℕ, _<_}
 use native.Mathlib.Decide.{decLt}
 use native.Mathlib.Omega.{arith}
-use borrow.Author.Tests.{lt-ltb, le-ltb}
-use lib.Dec.{ltb}
 use Rattle.geometry.specs.Drift.{mirrored}
 use Rattle.geometry.specs.Laws.{mirrored-below, mirrored-rising}
 use Rattle.ticket.specs.Laws.{Allowed}
@@ -21,7 +19,7 @@ use Rattle.tray.specs.Turned.{downOf, acrossOf}
 use Rattle.tray.specs.Laws.{across-in}
 use Rattle.filter.specs.Seen.{View, seen, turned, runsSteep}
 use Rattle.filter.specs.Filters.{operated, filtered, orWhite}
-use Rattle.filter.specs.Engine.{Absent}
+use Rattle.filter.specs.Absence.{seen-wide, seen-low, seen-hidden, seen-shown, absent-turned}
 use Rattle.filter.specs.Work.{workOf}
 use Rattle.filter.specs.declared.Segment.{Segment}
 use Rattle.job.specs.Order.{lineOf, segmentOf}
@@ -34,94 +32,68 @@ use Rattle.demands.proofs.FlipViews.{Runs, flippedSegment, Mirrors, ope
 
 -- ---- the page that a filter sees
 
--- two pages by column and row that are flips of one another
-record Flips (steep : Bool) (w h : ℕ) (page page′ : View) : Type 0 where
-  off : Absent w h page
-  off′ : Absent w h page′
-  there : (c r : ℕ) → c < w → r < h → page′ (mirrored steep w c) (mirrored (not steep) h r) ≡ page c r
+module _ (boxes : List HiddenBox) (w h : ℕ) (pixel pixel′ : ℕ → ℕ → ℕ) (on : OnPage w h boxes) where
+  -- the page as it is seen with flipped boxes
+  abbrev seen′ : Bool → View
+  seen′ steep = seen (map (flippedBox steep w h) boxes) w h pixel′
 
-module _ (boxes : List HiddenBox) (w h : ℕ) (pixel : ℕ → ℕ → ℕ) where
-  seen-off : Absent w h (seen boxes w h pixel)
-  unfolding seen
-  seen-off =
+  -- the second page is the first one flipped, as far as no box hides it
+  abbrev Same : Bool → Type 0
+  Same steep =
+      (c r : ℕ) → c < w → r < h → hidden boxes c r ≡ false
+      → pixel′ (mirrored steep w c) (mirrored (not steep) h r) ≡ pixel c r
+
+  seen-flipped :
+      (steep : Bool) → Same steep → (c r : ℕ) → c < w → r < h
+      → seen′ steep (mirrored steep w c) (mirrored (not steep) h r) ≡ seen boxes w h pixel c r
+  seen-flipped steep same c r c-in r-in = by-hidden (hidden boxes c r) refl
+    where
+      c′ : ℕ
+      c′ = mirrored steep w c
+
+      r′ : ℕ
+      r′ = mirrored (not steep) h r
+
+      hides : hidden (map (flippedBox steep w h) boxes) c′ r′ ≡ hidden boxes c r
+      hides = hidden-flipped w h steep boxes on c r c-in r-in
+
+      by-hidden : (b : Bool) → hidden boxes c r ≡ b → seen′ steep c′ r′ ≡ seen boxes w h pixel c r
+      by-hidden true e =
+          seen-hidden _ w h pixel′ c′ r′ (hides ∙ e) ∙ sym (seen-hidden boxes w h pixel c r e)
+      by-hidden false e =
+          seen-shown _ w h pixel′ c′ r′ (mirrored-below steep w c c-in) (mirrored-below (not steep) h r r-in) (hides ∙ e)
+          ∙ ap {B = Option ℕ} some (same c r c-in r-in e)
+          ∙ sym (seen-shown boxes w h pixel c r c-in r-in e)
+
+  -- on the axes of a line it is mirrored along the minor one
+  seen-mirrors :
+      (steep : Bool) → Same steep
+      → Mirrors (downOf steep w h) (acrossOf steep w h) (turned steep (seen boxes w h pixel)) (turned steep (seen′ steep))
+  unfolding turned downOf acrossOf
+  seen-mirrors steep same =
       record {
-        below = λ c r past. ap (λ (b : Bool). cond (b && ltb r h && not (hidden boxes c r)) (some (pixel c r)) none)
-            (le-ltb c w past);
-        beside = λ c r past. ap (λ (b : Bool). cond (ltb c w && b && not (hidden boxes c r)) (some (pixel c r)) none)
-            (le-ltb r h past)
-            ∙ nothing (ltb c w) (not (hidden boxes c r)) (pixel c r);
+        off = absent-turned boxes w h pixel steep;
+        off′ = absent-turned (map (flippedBox steep w h) boxes) w h pixel′ steep;
+        there = there steep same;
       }
     where
-      nothing : (a b : Bool) (v : ℕ) → cond (a && false && b) (some v) none ≡ none
-      nothing true b v = refl
-      nothing false b v = refl
-
-  seen-at : (c r : ℕ) → c < w → r < h → seen boxes w h pixel c r ≡ cond (not (hidden boxes c r)) (some (pixel c r)) none
-  unfolding seen
-  seen-at c r c-in r-in =
-      ap₂ (λ (a b : Bool). cond ((a && b) && not (hidden boxes c r)) (some (pixel c r)) none) (lt-ltb c w c-in)
-      (lt-ltb r h r-in)
-
-seen-flips :
-    (steep : Bool) (boxes : List HiddenBox) (w h : ℕ) (pixel pixel′ : ℕ → ℕ → ℕ) → OnPage w h boxes
-    → ((c r : ℕ) → c < w → r < h → hidden boxes c r ≡ false
-    → pixel′ (mirrored steep w c) (mirrored (not steep) h r) ≡ pixel c r)
-    → Flips steep w h (seen boxes w h pixel) (seen (map (flippedBox steep w h) boxes) w h pixel′)
-seen-flips steep boxes w h pixel pixel′ on same =
-    record {
-      off = seen-off boxes w h pixel;
-      off′ = seen-off (map (flippedBox steep w h) boxes) w h pixel′;
-      there = there;
-    }
-  where
-    by-hidden :
-        (b : Bool) (v v′ : ℕ) → (b ≡ false → v′ ≡ v) → cond (not b) (some v′) none ≡ cond (not b) (some v) none
-    by-hidden true v v′ e = refl
-    by-hidden false v v′ e = ap {B = Option ℕ} some (e refl)
-
-    there :
-        (c r : ℕ) → c < w → r < h
-        → seen (map (flippedBox steep w h) boxes) w h pixel′ (mirrored steep w c) (mirrored (not steep) h r)
-        ≡ seen boxes w h pixel c r
-    there c r c-in r-in =
-        seen-at (map (flippedBox steep w h) boxes) w h pixel′ (mirrored steep w c) (mirrored (not steep) h r)
-        (mirrored-below steep w c c-in) (mirrored-below (not steep) h r r-in)
-        ∙ ap (λ (b : Bool). cond (not b) (some (pixel′ (mirrored steep w c) (mirrored (not steep) h r))) none)
-        (hidden-flipped w h steep boxes on c r c-in r-in)
-        ∙ by-hidden (hidden boxes c r) (pixel c r) _ (same c r c-in r-in)
-        ∙ sym (seen-at boxes w h pixel c r c-in r-in)
-
--- ---- by the axes
-
--- on the axes of a line a flipped page is mirrored along the minor one
-along-mirrors :
-    (steep : Bool) (w h : ℕ) (page page′ : View) → Flips steep w h page page′
-    → Mirrors (downOf steep w h) (acrossOf steep w h) (turned steep page) (turned steep page′)
-unfolding turned downOf acrossOf
-along-mirrors true w h page page′ flips =
-    record {
-      off = record { below = λ M m past. flips .off .beside m M past; beside = λ M m past. flips .off .below m M past };
-      off′ = record {
-        below = λ M m past. flips .off′ .beside m M past;
-        beside = λ M m past. flips .off′ .below m M past;
-      };
-      there = λ M m m-in.
+      there :
+          (steep : Bool) → Same steep → (M m : ℕ) → m < acrossOf steep w h
+          → turned steep (seen′ steep) M (mirrored true (acrossOf steep w h) m) ≡ turned steep (seen boxes w h pixel) M m
+      there true same M m m-in =
           by-cases
           (decLt M h)
-          (λ M-in. ap (page′ (mirrored true w m)) (sym (mirrored-rising h M)) ∙ flips .there m M m-in M-in)
-          (λ past.
-          flips .off′ .beside (mirrored true w m) M (omega arith) ∙ sym (flips .off .beside m M (omega arith)));
-    }
-along-mirrors false w h page page′ flips =
-    record {
-      off = flips .off;
-      off′ = flips .off′;
-      there = λ M m m-in.
+          (λ M-in. ap (seen′ true (mirrored true w m)) (sym (mirrored-rising h M)) ∙ seen-flipped true same m M m-in M-in)
+          (λ past. seen-low _ w h pixel′ _ M (omega arith) ∙ sym (seen-low boxes w h pixel m M (omega arith)))
+      there false same M m m-in =
           by-cases
           (decLt M w)
-          (λ M-in. ap (λ (c : ℕ). page′ c (mirrored true h m)) (sym (mirrored-rising w M)) ∙ flips .there M m M-in m-in)
-          (λ past. flips .off′ .below M (mirrored true h m) (omega arith) ∙ sym (flips .off .below M m (omega arith)));
-    }
+          (λ M-in.
+          ap (λ (c : ℕ). seen′ false c (mirrored true h m)) (sym (mirrored-rising w M))
+          ∙ seen-flipped false same M m M-in m-in)
+          (λ past. seen-wide _ w h pixel′ M _ (omega arith) ∙ sym (seen-wide boxes w h pixel M m (omega arith)))
+
+-- ---- a pixel's places on the axes
 
 down-flipped :
     (steep : Bool) (w h c r : ℕ) → downOf steep (mirrored steep w c) (mirrored (not steep) h r) ≡ downOf steep c r
@@ -139,8 +111,14 @@ across-flipped false w h c r = refl
 
 -- ---- the filter
 
+-- two pages by column and row, mirrored on the axes of a segment's line
+abbrev Flips : Segment → ℕ → ℕ → View → View → Type 0
+Flips s w h page page′ =
+    let steep : Bool = runsSteep (s .line) in
+    Mirrors (downOf steep w h) (acrossOf steep w h) (turned steep page) (turned steep page′)
+
 filtered-flipped :
-    (n : ℕ) (s : Segment) → Runs (s .line) → (w h : ℕ) (page page′ : View) → Flips (runsSteep (s .line)) w h page page′
+    (n : ℕ) (s : Segment) → Runs (s .line) → (w h : ℕ) (page page′ : View) → Flips s w h page page′
     → (c r : ℕ) → c < w → r < h
     → filtered n (flippedSegment s) page′ (mirrored (runsSteep (s .line)) w c)
     (mirrored (not (runsSteep (s .line))) h r)
@@ -153,7 +131,7 @@ filtered-flipped n s e w h page page′ flips c r c-in r-in =
     let result : View = operated n s (turned steep page) in
     let result′ : View = operated n (flippedSegment s) (turned steep page′) in
     let mirrors : Mirrors (downOf steep w h) (acrossOf steep w h) result result′ =
-    operated-mirrors s e (downOf steep w h) (acrossOf steep w h) n _ _ (along-mirrors steep w h page page′ flips) in
+    operated-mirrors s e (downOf steep w h) (acrossOf steep w h) n _ _ flips in
     ap (λ (b : Bool). turned b (operated n (flippedSegment s) (turned b page′)) c′ r′) (steep-same s e)
     ∙ turned-is steep result′ c′ r′
     ∙ ap₂ result′ (down-flipped steep w h c r) (across-flipped steep w h c r)
@@ -189,7 +167,7 @@ flipped-page white t t′ p p′ tray tray′ ok on flip source c r c-in r-in =
     (seen (flip .boxes i) (source .same-width i) (source .same-height i) (pixelIn tray′ p′)) c′ r′))
     ∙ ap (orWhite white)
     (filtered-flipped (t .operation) (segmentOf t) (line-runs t ok) w h _ _
-    (seen-flips steep (boxesOf t) w h (pixelIn tray p) (pixelIn tray′ p′) on (source .pixels))
+    (seen-mirrors (boxesOf t) w h (pixelIn tray p) (pixelIn tray′ p′) on steep (source .pixels))
     c
     r
     c-in

@@ -29,7 +29,7 @@ module _ (w h : ℕ) where
     lies : Lies w h b
     lies = allowed-lies w h b ok
 
-    pub covers-flipped :
+    covers-flipped :
         (steep : Bool) (c r : ℕ) → c < w → r < h
         → covers (flippedBox steep w h b) (mirrored steep w c) (mirrored (not steep) h r) ≡ covers b c r
     unfolding flippedBox mirrored
@@ -83,12 +83,12 @@ module _ (w h : ℕ) where
         (ap₂ _&&_ (le-leb 1 (b .width) (lies .some-wide)) (le-leb 1 (b .height) (lies .some-high)))
         (ap₂ _&&_ (le-leb (left + b .width) w right-in) (le-leb (top + b .height) h bottom-in))
 
-    pub allowed-flipped : (steep : Bool) → boxAllowed w h (flippedBox steep w h b) ≡ true
+    allowed-flipped : (steep : Bool) → boxAllowed w h (flippedBox steep w h b) ≡ true
     unfolding flippedBox
     allowed-flipped true = allowed-of _ _ (omega (arith, lies)) (lies .bottom-in)
     allowed-flipped false = allowed-of _ _ (lies .right-in) (omega (arith, lies))
 
-    pub flipped-again : (steep : Bool) → flippedBox steep w h (flippedBox steep w h b) ≡ b
+    flipped-again : (steep : Bool) → flippedBox steep w h (flippedBox steep w h b) ≡ b
     unfolding flippedBox
     flipped-again true =
         let back : w - (w - (b .left + b .width) + b .width) ≡ b .left = omega (arith, lies) in
@@ -132,7 +132,7 @@ module _ (w h : ℕ) where
 
   -- ---- refusal 14
 
-  -- where each box of two lists lies on the page, both are judged alike
+  -- where each box of a list lies on the page, the list and its flip are judged alike
   pub judged-alike :
       (k : ℕ) (boxes : List HiddenBox) (steep : Bool) → OnPage w h boxes
       → judgePageBoxesFrom w h k (map (flippedBox steep w h) boxes) ≡ judgePageBoxesFrom w h k boxes

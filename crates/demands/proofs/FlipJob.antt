@@ -9,7 +9,7 @@ use native.Mathlib.Decide.{decLe}
 use native.Mathlib.Omega.{arith}
 use borrow.Author.Tests.{le-leb, lt-ltb}
 use lib.Dec.{leb, ltb, eqb}
-use lib.IntN.{ℤ, natAbs}
+use lib.IntN.{natAbs}
 use Rattle.geometry.specs.Vector.{shallow, steep}
 use Rattle.geometry.specs.Drift.{mirrored}
 use Rattle.geometry.specs.Flip.{flipped}
@@ -39,7 +39,7 @@ use Rattle.file.specs.Laws as files
 use Rattle.file.specs.Places.{placesOf}
 use Rattle.demands.specs.Files.{sourceOf}
 use Rattle.demands.specs.Flip.{flippedBox, OnPage, FlippedTicket, FlippedAnswer, FlippedJob, FlippedJobWork}
-use Rattle.demands.specs.Flip.{FlippedFile, FlippedVector, FlippedBoxes, FlippedBack, LevelLine}
+use Rattle.demands.specs.Flip.{FlippedFile, FlippedFileWork, FlippedVector, FlippedBoxes, FlippedBack, LevelLine}
 use Rattle.demands.proofs.Flip.{line-runs, flipped-page, flipped-work}
 use Rattle.demands.proofs.FlipBoxes.{on-page-flipped, boxes-again, judged-alike}
 
@@ -130,6 +130,15 @@ flipped-file ticket ticket′ file file′ out out′ scratch scratch′ work wo
     r-in
     ∙ sym (files.file-pixel ticket file out scratch work done c r c-in r-in)
 
+pub flipped-file-work : FlippedFileWork
+flipped-file-work ticket ticket′ file file′ n n′ work work′ bytes done done′ flip width height =
+    sym (files.finished-file ticket′ file′ n′ work′ done′ .worked)
+    ∙ ap₂ (jobWork (shown ticket′)) width height
+    ∙ flipped-work (shown ticket) (shown ticket′) (header file .width) (header file .height)
+    (files.file-allowed ticket file n work bytes done)
+    flip
+    ∙ files.finished-file ticket file n work done .worked
+
 -- ---- the ticket
 
 pub flipped-boxes : FlippedBoxes
@@ -208,8 +217,7 @@ pub flipped-vector : FlippedVector
 unfolding vectorAllowed phaseAllowed coprime
 flipped-vector t t′ w h ok flip =
     let same = negated w h t t′ ok flip in
-    let far : ℤ → ℤ → Bool = λ (x y : ℤ). leb (natAbs x) 255 && leb (natAbs y) 255 in
-    let near : far (t′ .dx) (t′ .dy) ≡ true =
+    let near : leb (natAbs (t′ .dx)) 255 && leb (natAbs (t′ .dy)) 255 ≡ true =
     ap₂ (λ (x y : ℕ). leb x 255 && leb y 255) (same .dx) (same .dy)
     ∙ ap₂ _&&_ (le-leb _ _ (ok .dx-to)) (le-leb _ _ (ok .dy-to)) in
     let coprimes : isPeriodic (t′ .line) || coprime (t′ .dx) (t′ .dy) ≡ true =

@@ -19,7 +19,7 @@ use Rattle.runs.specs.Scratch.{total}
 use Rattle.filter.specs.Seen.{View, runsSteep}
 use Rattle.filter.specs.Filters.{extreme, valueAt, onLine, inWindow, passAt, pass, eroded, dilationBack, dilated}
 use Rattle.filter.specs.Filters.{opened, closed, erosion, dilation, opening, closing, operated}
-use Rattle.filter.specs.Laws.{pass-absent}
+use Rattle.filter.specs.Absence.{pass-off}
 use Rattle.filter.specs.Sums.{total-same, total-mirrored}
 use Rattle.filter.specs.Work.{charged, chargedAt, passWork, erosionWork, dilationWork, workOf}
 use Rattle.filter.specs.Engine.{Absent}
@@ -87,20 +87,13 @@ module _ (l : Line) (e : Runs l) (H W : ℕ) where
     unfolding pass
     pass-there low a n = ap (passAt low (flipped l) a n page′ M m⁻) (mirrors .there M m h) ∙ by-value low a n (page M m)
 
-  absent-pass : (low : Bool) (k : Line) (a n : ℕ) (page : View) → Absent H W page → Absent H W (pass low k a n page)
-  absent-pass low k a n page off =
-      record {
-        below = λ M m h. pass-absent low k a n page M m (off .below M m h);
-        beside = λ M m h. pass-absent low k a n page M m (off .beside M m h);
-      }
-
   pass-mirrors :
       (low : Bool) (a n : ℕ) (page page′ : View) → Mirrors H W page page′
       → Mirrors H W (pass low l a n page) (pass low (flipped l) a n page′)
   pass-mirrors low a n page page′ mirrors =
       record {
-        off = absent-pass low l a n page (mirrors .off);
-        off′ = absent-pass low (flipped l) a n page′ (mirrors .off′);
+        off = pass-off low l a n H W page (mirrors .off);
+        off′ = pass-off low (flipped l) a n H W page′ (mirrors .off′);
         there = λ M m h. pass-there page page′ mirrors M m h low a n;
       }
 
@@ -112,7 +105,7 @@ module _ (l : Line) (e : Runs l) (H W : ℕ) where
   charged-flipped L a M m h =
       ap₂ (λ (x y : ℕ). charged L a x (suc (x + y))) (flipped-behind l e H W M m h) (flipped-ahead l e H W M m h)
 
-  pub pass-work-flipped : (L a : ℕ) → passWork (flipped l) H W L a ≡ passWork l H W L a
+  pass-work-flipped : (L a : ℕ) → passWork (flipped l) H W L a ≡ passWork l H W L a
   unfolding passWork
   pass-work-flipped L a =
       ap (λ (row : ℕ → ℕ). total row 0 H)

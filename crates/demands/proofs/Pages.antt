@@ -1,18 +1,17 @@
 -- The page in a tray as the filter of a ticket sees it, and the finished page by the axes of the ticket's line.
 -- Assumes nothing.
-use mathlib.Core.Path.{_≡_, refl, ap, ap₂, _∙_}
-use mathlib.Core.Bool.{Bool, true, false, not, _&&_, cond}
+use mathlib.Core.Path.{_≡_, ap, _∙_}
+use mathlib.Core.Bool.{true, false}
 use mathlib.Core.Option.{none, some}
 use mathlib.Core.List.{List}
 use Prim.Native.Nat.{ℕ, _<_}
-use borrow.Author.Tests.{lt-ltb}
-use lib.Dec.{ltb}
 use Rattle.ticket.specs.declared.Ticket.{Ticket}
 use Rattle.boxes.specs.Boxes.{hidden, boxesOf}
 use Rattle.placement.specs.Placement.{pixelIn}
 use Rattle.placement.specs.declared.Placement.{Placement}
 use Rattle.filter.specs.Seen.{View, seen, turned, runsSteep}
 use Rattle.filter.specs.Filters.{operated, filtered, orWhite}
+use Rattle.filter.specs.Absence.{seen-hidden, seen-shown}
 use Rattle.job.specs.Order.{lineOf, segmentOf}
 use Rattle.job.specs.Job.{finishedWith}
 use Rattle.job.specs.Laws.{finished-is}
@@ -26,10 +25,6 @@ seenIn t p tray = seen (boxesOf t) (p .width) (p .height) (pixelIn tray p)
 -- the same page by its places on the axes
 abbrev pub alongIn : Ticket → Placement → List ℕ → View
 alongIn t p tray = turned (runsSteep (lineOf t)) (seenIn t p tray)
-
-and-none : (a : Bool) (v : ℕ) → cond (a && false) (some v) none ≡ none
-and-none true v = refl
-and-none false v = refl
 
 module _ (t : Ticket) (p : Placement) (tray : List ℕ) (c r : ℕ) where
   -- the finished page is the filter of that page, at the pixel's places on the axes
@@ -46,15 +41,8 @@ module _ (t : Ticket) (p : Placement) (tray : List ℕ) (c r : ℕ) where
   -- a pixel of the page in no box is there,
   pub seen-there :
       c < p .width → r < p .height → hidden (boxesOf t) c r ≡ false → seenIn t p tray c r ≡ some (pixelIn tray p c r)
-  unfolding seen
-  seen-there c-in r-in shown =
-      ap₂ (λ (one two : Bool). cond ((one && two) && not (hidden (boxesOf t) c r)) (some (pixelIn tray p c r)) none)
-      (lt-ltb _ _ c-in) (lt-ltb _ _ r-in)
-      ∙ ap (λ (test : Bool). cond (not test) (some (pixelIn tray p c r)) none) shown
+  seen-there c-in r-in shown = seen-shown (boxesOf t) (p .width) (p .height) (pixelIn tray p) c r c-in r-in shown
 
   -- and a hidden one is absent
   pub seen-none : hidden (boxesOf t) c r ≡ true → seenIn t p tray c r ≡ none
-  unfolding seen
-  seen-none e =
-      ap (λ (b : Bool). cond ((ltb c (p .width) && ltb r (p .height)) && not b) (some (pixelIn tray p c r)) none) e
-      ∙ and-none (ltb c (p .width) && ltb r (p .height)) (pixelIn tray p c r)
+  seen-none e = seen-hidden (boxesOf t) (p .width) (p .height) (pixelIn tray p) c r e

@@ -11,7 +11,7 @@ use Rattle.demands.specs.Near.{NearIn, NearSelf, NearStep, NearBack}
 use Rattle.demands.specs.Reach.{Reach, PageAlone, HiddenWhite}
 use Rattle.demands.specs.Exact.{ClearSteps, ExactReach, ExactJobReach}
 use Rattle.demands.specs.Flip.{FlippedPage, FlippedWork, FlippedAnswer, FlippedJob, FlippedJobWork, FlippedFile}
-use Rattle.demands.specs.Flip.{FlippedVector, FlippedBoxes, FlippedBack, LevelLine}
+use Rattle.demands.specs.Flip.{FlippedFileWork, FlippedVector, FlippedBoxes, FlippedBack, LevelLine}
 use Rattle.demands.specs.Files.{FileOutputKept, FileOutputLength, FileScratchKept, FileScratchLength}
 use Rattle.demands.specs.Files.{FileScratchZero, FileRefusedOutput, FileRefusedScratch, FileRefusedWork}
 use Rattle.demands.specs.Files.{FileReadsBack, FilePageBack, FileHidden, FileWork, FileOnePass}
@@ -51,13 +51,14 @@ pub record Demands : Type 0 where
   pub clear-steps : ClearSteps
   pub exact-reach : ExactReach
   pub exact-job-reach : ExactJobReach
-  -- a flipped page, filtered with the flipped ticket, is the flipped result, for the same work
+  -- document 02, wish 2: a flipped page, filtered with the flipped ticket, is the flipped result, for the same work
   pub flipped-page : FlippedPage
   pub flipped-work : FlippedWork
   pub flipped-answer : FlippedAnswer
   pub flipped-job : FlippedJob
   pub flipped-job-work : FlippedJobWork
   pub flipped-file : FlippedFile
+  pub flipped-file-work : FlippedFileWork
   pub flipped-vector : FlippedVector
   pub flipped-boxes : FlippedBoxes
   pub flipped-back : FlippedBack

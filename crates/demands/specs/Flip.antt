@@ -84,13 +84,13 @@ FlippedPage =
     → finishedWith white t′ p′ tray′ (flippedColumn t (p .width) c) (flippedRow t (p .height) r)
     ≡ finishedWith white t p tray c r
 
--- It costs as many comparisons.
+-- The flipped ticket costs as many comparisons, on a page of the same sides.
 abbrev pub FlippedWork : Type 0
 FlippedWork =
     (t t′ : Ticket) (w h : ℕ) → Allowed t → FlippedTicket w h t t′ → jobWork t′ w h ≡ jobWork t w h
 
--- Where a job is finished, so is the job with the flipped ticket at the same placements and lengths, with the same
--- work: nothing that is refused comes in by flipping.
+-- Where a job is finished, so is the job with the flipped ticket, if that is read, at the same placements and lengths,
+-- and with the same work: nothing that is refused comes in by flipping.
 abbrev pub FlippedAnswer : Type 0
 FlippedAnswer =
     (ticket ticket′ : List ℕ) (p : Placements) (n : Lengths) (work : ℕ) → Bytes ticket
@@ -112,7 +112,7 @@ FlippedJob =
     (flippedColumn (shown ticket) (p .width) c) (flippedRow (shown ticket) (p .height) r)
     ≡ pixelIn (outputAfter ticket p source out scratch) (outputPage p) c r
 
--- and "the work is the same".
+-- and their work is the same.
 abbrev pub FlippedJobWork : Type 0
 FlippedJobWork =
     (ticket ticket′ : List ℕ) (p p′ : Placements) (n n′ : Lengths) (work work′ : ℕ) → Bytes ticket
@@ -121,7 +121,7 @@ FlippedJobWork =
     → p′ .width ≡ p .width → p′ .height ≡ p .height → work′ ≡ work
 
 -- The flip, of jobs on P5 files with one maximum: their pages once read are flips of one another, and so are the pages
--- that are written.
+-- that are written; their work is the same.
 abbrev pub FlippedFile : Type 0
 FlippedFile =
     (ticket ticket′ file file′ out out′ scratch scratch′ : List ℕ) (work work′ : ℕ) → Bytes ticket
@@ -134,6 +134,13 @@ FlippedFile =
     → pixelIn (fileOutputAfter ticket′ file′ out′ scratch′) (outputOf file′)
     (flippedColumn (shown ticket) (header file .width) c) (flippedRow (shown ticket) (header file .height) r)
     ≡ pixelIn (fileOutputAfter ticket file out scratch) (outputOf file) c r
+
+abbrev pub FlippedFileWork : Type 0
+FlippedFileWork =
+    (ticket ticket′ file file′ : List ℕ) (n n′ : Lengths) (work work′ : ℕ) → Bytes ticket
+    → fileAnswer ticket file n ≡ Done work → fileAnswer ticket′ file′ n′ ≡ Done work′
+    → FlippedTicket (header file .width) (header file .height) (shown ticket) (shown ticket′)
+    → header file′ .width ≡ header file .width → header file′ .height ≡ header file .height → work′ ≡ work
 
 -- ---- a flipped ticket is what it should be
 

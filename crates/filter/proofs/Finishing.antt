@@ -1,13 +1,12 @@
 -- From its buffer into the scratch and out again: what stands in the scratch is the filtered page. Assumes nothing.
 use mathlib.Core.Path.{_≡_, refl, sym, ap, _∙_, subst}
-use mathlib.Core.Bool.{Bool, true, false, not, _&&_, cond, and-false}
+use mathlib.Core.Bool.{Bool, true, false, not, _&&_, cond}
 use mathlib.Core.Option.{none, some, Option·some-injective, Option·none-ne-some}
 use mathlib.Core.List.{List}
 use Prim.Native.Nat.{ℕ, _+_, _*_, _≤_, _<_}
 use native.Mathlib.Omega.{arith}
 use lib.Dec.{ltb}
 use lib.ListN.{length, getD}
-use borrow.Author.Tests.{lt-ltb, le-ltb}
 use Rattle.boxes.specs.Boxes.{hidden}
 use Rattle.hiding.specs.Hiding.{BoxesLie, BoxesPainted}
 use Rattle.geometry.specs.Drift.{reach}
@@ -24,6 +23,7 @@ use Rattle.tray.specs.Turned.{acrossOf, downOf, compactHeight, compactAt}
 use Rattle.tray.specs.declared.Layout.{Layout}
 use Rattle.filter.specs.Seen.{View, seen, turned}
 use Rattle.filter.specs.Filters.{operated, filtered, orWhite, recipeBoxes, filteredPage}
+use Rattle.filter.specs.Absence.{seen-hidden, seen-shown, absent-turned}
 use Rattle.filter.specs.Work.{workOf}
 use Rattle.filter.specs.Engine.{Absent, Bytes, steepOf, layoutOf, gridOf, scratchPlace, Held, PassDone, PassReady, Tables}
 use Rattle.filter.specs.Engine.{Enters, Ready}
@@ -38,23 +38,6 @@ turned-twice true page c r = refl
 turned-twice false page c r = refl
 
 module _ (boxes : List HiddenBox) (width height : ℕ) (pixel : ℕ → ℕ → ℕ) where
-  seen-wide : (c r : ℕ) → width ≤ c → seen boxes width height pixel c r ≡ none
-  unfolding seen
-  seen-wide c r h = rw (le-ltb c width h) refl
-
-  seen-low : (c r : ℕ) → height ≤ r → seen boxes width height pixel c r ≡ none
-  unfolding seen
-  seen-low c r h = rw (le-ltb r height h, and-false (ltb c width)) refl
-
-  seen-hidden : (c r : ℕ) → hidden boxes c r ≡ true → seen boxes width height pixel c r ≡ none
-  unfolding seen
-  seen-hidden c r e = rw (e, and-false (ltb c width && ltb r height)) refl
-
-  seen-shown : (c r : ℕ) → c < width → r < height → hidden boxes c r ≡ false
-      → seen boxes width height pixel c r ≡ some (pixel c r)
-  unfolding seen
-  seen-shown c r c-in r-in e = rw (e, lt-ltb c width c-in, lt-ltb r height r-in) refl
-
   picked : (b : Bool) (x v : ℕ) → cond b (some x) none ≡ some v → x ≡ v
   picked true x v e = Option·some-injective x v e
   picked false x v e = absurd (Option·none-ne-some v e)
@@ -65,13 +48,6 @@ module _ (boxes : List HiddenBox) (width height : ℕ) (pixel : ℕ → ℕ → 
 
   seen-small : ((c r : ℕ) → pixel c r < 256) → (c r v : ℕ) → seen boxes width height pixel c r ≡ some v → v ≤ 255
   seen-small bytes c r v e = let same : pixel c r ≡ v = seen-value c r v e in omega (arith, bytes c r)
-
-  -- by its axes, it is absent past the sides
-  absent-turned : (steep : Bool)
-      → Absent (downOf steep width height) (acrossOf steep width height) (turned steep (seen boxes width height pixel))
-  unfolding turned downOf acrossOf
-  absent-turned true = record { below = λ M m h. seen-low m M h; beside = λ M m h. seen-wide m M h }
-  absent-turned false = record { below = λ M m h. seen-wide M m h; beside = λ M m h. seen-low M m h }
 
   bytes-turned : ((c r : ℕ) → pixel c r < 256) → (steep : Bool) → Bytes (turned steep (seen boxes width height pixel))
   unfolding turned Bytes

@@ -1,4 +1,4 @@
--- What a pass keeps: bytes stay bytes, and a page that is absent off its sides stays so.
+-- What a pass keeps: bytes stay bytes.
 -- Assumes nothing.
 use mathlib.Core.Bool.{Bool, true, false, cond}
 use mathlib.Core.Option.{Option, none, some}
@@ -8,11 +8,8 @@ use Rattle.geometry.specs.Line.{landing, stepOf, majorAt}
 use Rattle.geometry.specs.declared.Line.{Line}
 use Rattle.filter.specs.Seen.{View}
 use Rattle.filter.specs.Filters.{valueAt, onLine, inWindow, passAt, pass}
-use Rattle.filter.specs.Engine.{Absent, Bytes}
-use Rattle.filter.specs.Laws.{pass-absent}
+use Rattle.filter.specs.Engine.{Bytes}
 use Rattle.filter.proofs.Neutral.{Small, small-none, extreme-small}
-
--- ---- bytes
 
 module _ (page : View) (bytes : Bytes page) where
   value-small : (M : ℕ) (o : Option ℕ) → Small (valueAt page M o)
@@ -38,13 +35,3 @@ module _ (page : View) (bytes : Bytes page) where
   pub pass-bytes : (low : Bool) (l : Line) (a n : ℕ) → Bytes (pass low l a n page)
   unfolding Bytes Small pass
   pass-bytes low l a n M m = pass-small low l a n M m (page M m)
-
--- ---- what is absent
-
-pub pass-off : (low : Bool) (l : Line) (a n : ℕ) (H W : ℕ) (page : View) → Absent H W page
-    → Absent H W (pass low l a n page)
-pass-off low l a n H W page off =
-    record {
-      below = λ M m h. pass-absent low l a n page M m (off .below M m h);
-      beside = λ M m h. pass-absent low l a n page M m (off .beside M m h);
-    }

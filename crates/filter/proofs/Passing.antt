@@ -14,6 +14,7 @@ use Rattle.runs.specs.Grid.{Page, Sized, Tabled, windowedAt}
 use Rattle.runs.specs.Scratch.{size}
 use Rattle.sweep.specs.Sweeps.{RowsHold, Passed}
 use Rattle.runs.specs.declared.Grid.{Grid}
+use Rattle.filter.specs.Absence.{pass-off}
 use Rattle.filter.specs.declared.Recipe.{Recipe}
 use Rattle.tray.specs.Turned.{acrossOf, downOf, compactColumn, compactAt}
 use Rattle.tray.specs.declared.Layout.{Layout}
@@ -29,7 +30,7 @@ use Rattle.filter.proofs.Bridge.{bridge}
 use Rattle.filter.proofs.Charges.{work}
 use Rattle.filter.proofs.Grids.{grid-sized}
 use Rattle.filter.specs.Laws.{pass-absent}
-use Rattle.filter.proofs.Kept.{pass-bytes, pass-off}
+use Rattle.filter.proofs.Kept.{pass-bytes}
 
 -- ---- columns and rows, and places on the axes
 

@@ -5,4 +5,5 @@ pub mod Sums
 pub mod Engine
 pub mod Promises
 pub mod Laws
+pub mod Absence
 pub mod Within

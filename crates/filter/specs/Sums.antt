@@ -54,7 +54,7 @@ total-back c d k k′ (suc n) h =
     less : (n i : ℕ) → suc n - 1 - suc i ≡ n - 1 - i
     less n i = omega arith
 
--- over a side in normal form
+-- a sum over a side is the same, counted from its other end
 pub total-mirrored : (falling : Bool) (c : ℕ → ℕ) (W : ℕ)
     → total (λ (m : ℕ). c (mirrored falling W m)) 0 W ≡ total c 0 W
 total-mirrored true c W =

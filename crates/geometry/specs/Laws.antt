@@ -1,6 +1,7 @@
--- The laws of lines: all that a layer above may use, with every definition of Vector, Line, Number and Drift left shut.
--- None of them shows what D is or how a number on a line is found, so the rule for ties in D and the way the tables are
--- computed can change below them. Only the statements are to be read; their proofs stand behind them, in Laws/.
+-- The laws of lines: all that a layer above may use, with every definition of Vector, Line, Number, Drift and Flip left
+-- shut. Those under 'D' say what D is, for readers; no crate above cites them. None of the others shows it, or how a
+-- number on a line is found, so the rule for ties in D and the way the tables are computed can change below them. Only
+-- the statements are to be read; their proofs stand behind them, in Laws/.
 -- In each, t = stepOf l M is the step at which a pixel (M, m) stands on its line, x = mirrored (falls l) W m its place
 -- on the minor axis in normal form, H and W are the page's sides on the major and the minor axis.
 -- Assumes nothing.
@@ -13,7 +14,7 @@ pub mod Numbering
 pub mod Rows
 pub mod Slope
 use mathlib.Core.Path.{_≡_, refl, sym, ap, _∙_}
-use mathlib.Core.Bool.{Bool, true, false, cond, _&&_, _||_}
+use mathlib.Core.Bool.{Bool, true, false, not, cond, _&&_, _||_}
 use mathlib.Core.Option.{Option, none, some}
 use mathlib.Core.Logic.{_⊎_, by-cases}
 use Prim.Native.Nat.{ℕ, suc, _+_, _*_, _-_, _/_, _%_, _≤_, _<_, max}
@@ -23,6 +24,7 @@ use native.Mathlib.Omega.{arith}
 use borrow.Author.Tests.{leb-true, leb-false}
 use lib.Dec.{ltb, leb}
 use lib.IntN.{ℤ, pos, negsuc, negℤ, natAbs}
+use lib.Signed.{nonNeg}
 use mir.Syntax.{w32}
 use mir.Val.{SFits, toZ, ofZ}
 use mir.ValLaws.{toZ-ofZ}
@@ -110,8 +112,8 @@ nearest-low a b c = nearly.nearest-low a b c
 pub nearest-high : (a b c : ℕ) → 1 ≤ a → 2 * c * b + a < suc (nearest a b c) * (2 * a)
 nearest-high a b c h = nearly.nearest-high a b c h
 
-pub D-size : (a : ℕ) (z : ℤ) (c : ℕ) → natAbs (D a z c) ≡ nearest a (natAbs z) c
-D-size a z c = nearly.D-size a z c
+pub D-signed : (a : ℕ) (z : ℤ) (c : ℕ) → D a z c ≡ signed (not (nonNeg z)) (nearest a (natAbs z) c)
+D-signed a z c = nearly.D-signed a z c
 
 pub D-negated : (a : ℕ) (z : ℤ) (c : ℕ) → 1 ≤ a → D a (negℤ z) c ≡ negℤ (D a z c)
 D-negated a z c h = nearly.D-negated a z c h

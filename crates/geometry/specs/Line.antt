@@ -15,7 +15,8 @@ unfoldable pub nearest : ℕ → ℕ → ℕ → ℕ
 nearest a b c = (2 * c * b + a) / (2 * a)
 
 -- "D takes the sign of dy", for a major component dx and a minor component dy: of a line that does not fall it is
--- document 01's "floor((2·c·dy + dx) / (2·dx))", and of one that falls the same counted down
+-- document 01's "floor((2·c·dy + dx) / (2·dx))", and of one that falls that of the line that rises as fast, counted
+-- down
 unfoldable pub D : ℕ → ℤ → ℕ → ℤ
 D major (pos b) c = pos (nearest major b c)
 D major (negsuc b) c = negℤ (pos (nearest major (suc b) c))

@@ -1,6 +1,6 @@
--- Document 01, 'Lines': the three tables of D, the third as document 02, wish 2, has it. Then the numbers of the pixels
--- of three small pages, as a second program written from the documents alone has them: a falling line with a phase, a
--- steep one that falls, with ties, and a periodic one.
+-- Document 01, 'Lines': the three tables of D, the third as document 02, wish 2, has it, and that of (2, 1) beside it.
+-- Then the numbers of the pixels of three small pages, as a second program written from the documents alone has them: a
+-- falling line with a phase, a steep one that falls, with ties, and a periodic one.
 -- Assumes nothing.
 use mathlib.Core.Path.{_≡_, refl}
 use mathlib.Core.Bool.{true, false, cond}

@@ -65,9 +65,9 @@ never-both : (dx dy : ℤ) → shallow dx dy ≡ true → steep dx dy ≡ false
 never-both dx dy e =
     untrue (steep dx dy) (λ f. absurd (omega (arith, shallow-is dx dy e .slope, steep-is dx dy f .slope)))
 
-shallow-or : (a b : Bool) → a || b ≡ true → b ≡ false → a ≡ true
-shallow-or true b e f = refl
-shallow-or false b e f = absurd (false≢true (sym f ∙ e))
+or-then-left : (a b : Bool) → a || b ≡ true → b ≡ false → a ≡ true
+or-then-left true b e f = refl
+or-then-left false b e f = absurd (false≢true (sym f ∙ e))
 
 or-right : (a b : Bool) → b ≡ true → a || b ≡ true
 or-right true b e = refl
@@ -85,7 +85,7 @@ module _ (l : Line) (e : shallow (l .dx) (l .dy) || steep (l .dx) (l .dy) ≡ tr
       go : (b : Bool) → steep (l .dx) (l .dy) ≡ b
           → steep (cond b (negℤ (l .dx)) (l .dx)) (cond b (l .dy) (negℤ (l .dy))) ≡ b
       go true f = steep-negated (l .dx) (l .dy) ∙ f
-      go false f = never-both _ _ (shallow-negated (l .dx) (l .dy) ∙ shallow-or _ _ e f)
+      go false f = never-both _ _ (shallow-negated (l .dx) (l .dy) ∙ or-then-left _ _ e f)
 
   pub runs-flipped : shallow (flipped l .dx) (flipped l .dy) || steep (flipped l .dx) (flipped l .dy) ≡ true
   unfolding flipped
@@ -96,7 +96,7 @@ module _ (l : Line) (e : shallow (l .dx) (l .dy) || steep (l .dx) (l .dy) ≡ tr
           || steep (cond b (negℤ (l .dx)) (l .dx)) (cond b (l .dy) (negℤ (l .dy)))
           ≡ true
       go true f = or-right (shallow (negℤ (l .dx)) (l .dy)) _ (steep-negated (l .dx) (l .dy) ∙ f)
-      go false f = or-left _ (steep (l .dx) (negℤ (l .dy))) (shallow-negated (l .dx) (l .dy) ∙ shallow-or _ _ e f)
+      go false f = or-left _ (steep (l .dx) (negℤ (l .dy))) (shallow-negated (l .dx) (l .dy) ∙ or-then-left _ _ e f)
 
   pub major-flipped : majorOf (flipped l .dx) (flipped l .dy) ≡ majorOf (l .dx) (l .dy)
   unfolding majorOf flipped
@@ -121,7 +121,7 @@ module _ (l : Line) (e : shallow (l .dx) (l .dy) || steep (l .dx) (l .dy) ≡ tr
 
   -- ---- its steps
 
-  pub period-flipped : period (flipped l) ≡ period l
+  period-flipped : period (flipped l) ≡ period l
   unfolding period flipped
   period-flipped = ap (λ (n : ℕ). cond (l .periodic) n 1) major-flipped
 
@@ -144,7 +144,7 @@ module _ (l : Line) (e : shallow (l .dx) (l .dy) || steep (l .dx) (l .dy) ≡ tr
       go false = shift-negated a z (l .phase) t (runs (l .dx) (l .dy) e .forward)
 
   -- from a mirrored place, the flipped line moves as far, the other way
-  pub landing-flipped : (n t s : ℕ)
+  landing-flipped : (n t s : ℕ)
       → landing (flipped l) n t s ≡ place (pos n +ℤ negℤ (profile l s -ℤ profile l t))
   unfolding landing
   landing-flipped n t s =
@@ -164,21 +164,21 @@ risen-within W m k h =
     (λ i. ap (λ (z : ℤ). within (place z) W) (minus (W - 1 - m) k ∙ below (W - 1 - m) k (omega arith))
     ∙ sym (le-ltb (m + k) W (omega arith)))
 
-turned-within : (W m : ℕ) (z : ℤ) → m < W → within (place (pos (W - 1 - m) +ℤ negℤ z)) W ≡ within (place (pos m +ℤ z)) W
-turned-within W m (pos k) h = risen-within W m k h
-turned-within W m (negsuc k) h =
+mirrored-within : (W m : ℕ) (z : ℤ) → m < W → within (place (pos (W - 1 - m) +ℤ negℤ z)) W ≡ within (place (pos m +ℤ z)) W
+mirrored-within W m (pos k) h = risen-within W m k h
+mirrored-within W m (negsuc k) h =
     let back : W - 1 - (W - 1 - m) ≡ m = omega arith in
     sym (risen-within W (W - 1 - m) (suc k) (omega arith))
     ∙ ap (λ (n : ℕ). within (place (pos n +ℤ negsuc k)) W) back
 
-turned-some : (W m m′ : ℕ) (z : ℤ) → m < W → m′ < W → place (pos m +ℤ z) ≡ some m′
+mirrored-some : (W m m′ : ℕ) (z : ℤ) → m < W → m′ < W → place (pos m +ℤ z) ≡ some m′
     → place (pos (W - 1 - m) +ℤ negℤ z) ≡ some (W - 1 - m′)
 unfolding place
-turned-some W m m′ (pos k) h h′ e =
+mirrored-some W m m′ (pos k) h h′ e =
     let there : m + k ≡ m′ = Option·some-injective (m + k) m′ e in
     let left : W - 1 - m - k ≡ W - 1 - m′ = omega arith in
     ap place (minus (W - 1 - m) k ∙ above (W - 1 - m) k (omega arith)) ∙ ap {B = Option ℕ} some left
-turned-some W m m′ (negsuc k) h h′ e =
+mirrored-some W m m′ (negsuc k) h h′ e =
     by-cases
     (decLe (suc k) m)
     (λ i.
@@ -208,7 +208,7 @@ module _ (l : Line) (e : shallow (l .dx) (l .dy) || steep (l .dx) (l .dy) ≡ tr
       → landing (flipped l) (mirrored true W m) t s ≡ some (mirrored true W m′)
   unfolding landing mirrored
   lands-flipped W m m′ t s h h′ f =
-      landing-flipped l e (W - 1 - m) t s ∙ turned-some W m m′ (profile l s -ℤ profile l t) h h′ f
+      landing-flipped l e (W - 1 - m) t s ∙ mirrored-some W m m′ (profile l s -ℤ profile l t) h h′ f
 
   pub in-page-flipped : (H W M m s : ℕ) → m < W
       → inPage (flipped l) H W M (mirrored true W m) s ≡ inPage l H W M m s
@@ -218,7 +218,7 @@ module _ (l : Line) (e : shallow (l .dx) (l .dy) || steep (l .dx) (l .dy) ≡ tr
       (major-at-flipped M s) (step-flipped M)
       ∙ ap (λ (b : Bool). ltb (majorAt l M s) H && b)
       (ap (λ (o : Option ℕ). within o W) (landing-flipped l e (W - 1 - m) (stepOf l M) s)
-      ∙ turned-within W m (profile l s -ℤ profile l (stepOf l M)) h)
+      ∙ mirrored-within W m (profile l s -ℤ profile l (stepOf l M)) h)
 
   module _ (H W M m : ℕ) (h : m < W) where
     pub behind-flipped : behind (flipped l) H W M (mirrored true W m) ≡ behind l H W M m

@@ -20,9 +20,6 @@ pub minus : (a b : ℕ) → pos a -ℤ pos b ≡ subℕ a b
 minus a zero = rw (above a zero (omega arith), add-zero, sub-zero)
 minus a (suc b) = refl
 
-pub minus-first : (a b : ℕ) → negℤ (pos b) +ℤ pos a ≡ subℕ a b
-minus-first a b = +ℤ-comm (negℤ (pos b)) (pos a) ∙ minus a b
-
 pub size-signed : (falling : Bool) (n : ℕ) → natAbs (signed falling n) ≡ n
 unfolding signed
 size-signed true zero = refl

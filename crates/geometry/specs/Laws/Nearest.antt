@@ -1,5 +1,5 @@
--- D: which whole number its size is, how it goes from column to column, and its sign. Only this file and the code's own
--- proofs see what D is.
+-- D: which whole number its size is, how it goes from column to column, and its sign. Only this file and the worked
+-- values open D; the code's own proof opens the size, `nearest`.
 -- Assumes nothing.
 use mathlib.Core.Path.{_≡_, refl, sym, ap, ap₂, _∙_}
 use mathlib.Core.Bool.{not}
@@ -11,7 +11,6 @@ use lib.IntN.{ℤ, pos, negsuc, negℤ, natAbs, _-ℤ_, negℤ-negℤ, negℤ-+�
 use lib.Signed.{nonNeg}
 use Rattle.geometry.specs.Line.{nearest, D, shift}
 use Rattle.geometry.specs.Drift.{signed}
-use Rattle.geometry.specs.Laws.Integers.{size-signed}
 
 -- ---- the size
 
@@ -51,9 +50,6 @@ pub D-signed : (a : ℕ) (z : ℤ) (c : ℕ) → D a z c ≡ signed (not (nonNeg
 unfolding D signed
 D-signed a (pos b) c = refl
 D-signed a (negsuc b) c = refl
-
-pub D-size : (a : ℕ) (z : ℤ) (c : ℕ) → natAbs (D a z c) ≡ nearest a (natAbs z) c
-D-size a z c = ap natAbs (D-signed a z c) ∙ size-signed (not (nonNeg z)) _
 
 pub D-negated : (a : ℕ) (z : ℤ) (c : ℕ) → 1 ≤ a → D a (negℤ z) c ≡ negℤ (D a z c)
 unfolding D

@@ -110,7 +110,6 @@ module _ (l : Line) (h : Sound l) where
       rw (drift-amount s, drift-amount t) (amount-rises (l .periodic) _ _ (l .phase) (h .forward) k)
 
   pub drift-step : (t : ℕ) → l .periodic ≡ false → drift l (suc t) ≤ suc (drift l t)
-  unfolding falls
   drift-step t e =
       rw (drift-amount (suc t), drift-amount t, e) (connected-step _ _ (l .phase) t (h .forward) (h .slope))
 
