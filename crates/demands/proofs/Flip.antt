@@ -61,14 +61,16 @@ module _ (boxes : List HiddenBox) (w h : ℕ) (pixel pixel′ : ℕ → ℕ → 
       by-hidden true e =
           seen-hidden _ w h pixel′ c′ r′ (hides ∙ e) ∙ sym (seen-hidden boxes w h pixel c r e)
       by-hidden false e =
-          seen-shown _ w h pixel′ c′ r′ (mirrored-below steep w c c-in) (mirrored-below (not steep) h r r-in) (hides ∙ e)
+          seen-shown _ w h pixel′ c′ r′ (mirrored-below steep w c c-in) (mirrored-below (not steep) h r r-in)
+          (hides ∙ e)
           ∙ ap {B = Option ℕ} some (same c r c-in r-in e)
           ∙ sym (seen-shown boxes w h pixel c r c-in r-in e)
 
   -- on the axes of a line it is mirrored along the minor one
   seen-mirrors :
       (steep : Bool) → Same steep
-      → Mirrors (downOf steep w h) (acrossOf steep w h) (turned steep (seen boxes w h pixel)) (turned steep (seen′ steep))
+      → Mirrors (downOf steep w h) (acrossOf steep w h) (turned steep (seen boxes w h pixel))
+      (turned steep (seen′ steep))
   unfolding turned downOf acrossOf
   seen-mirrors steep same =
       record {
@@ -79,11 +81,13 @@ module _ (boxes : List HiddenBox) (w h : ℕ) (pixel pixel′ : ℕ → ℕ → 
     where
       there :
           (steep : Bool) → Same steep → (M m : ℕ) → m < acrossOf steep w h
-          → turned steep (seen′ steep) M (mirrored true (acrossOf steep w h) m) ≡ turned steep (seen boxes w h pixel) M m
+          → turned steep (seen′ steep) M (mirrored true (acrossOf steep w h) m)
+          ≡ turned steep (seen boxes w h pixel) M m
       there true same M m m-in =
           by-cases
           (decLt M h)
-          (λ M-in. ap (seen′ true (mirrored true w m)) (sym (mirrored-rising h M)) ∙ seen-flipped true same m M m-in M-in)
+          (λ M-in.
+          ap (seen′ true (mirrored true w m)) (sym (mirrored-rising h M)) ∙ seen-flipped true same m M m-in M-in)
           (λ past. seen-low _ w h pixel′ _ M (omega arith) ∙ sym (seen-low boxes w h pixel m M (omega arith)))
       there false same M m m-in =
           by-cases

@@ -1,6 +1,7 @@
 -- Document 01, 'Small pages to check against': cases 1 to 15 as one table, with case 12 flipped (document 02, wish 2),
--- and one statement over the definitions, closed by computation. It says of each case whether its ticket is read, what page and what work the definitions have
--- for it, and what its job does: the answer, the output tray and the scratch after it.
+-- and one statement over the definitions, closed by computation. It says of each case whether its ticket is read, what
+-- page and what work the definitions have for it, and what its job does: the answer, the output tray and the scratch
+-- after it.
 -- Each case but one stands at three placements: its trays just the page, and twice in longer trays, at another offset
 -- and with wider strides for source and output, between black and between white bytes. The output tray and the scratch
 -- are old; at a finished job the output tray is its old bytes with the page among them, and the scratch it needs is

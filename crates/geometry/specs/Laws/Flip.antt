@@ -164,7 +164,8 @@ risen-within W m k h =
     (λ i. ap (λ (z : ℤ). within (place z) W) (minus (W - 1 - m) k ∙ below (W - 1 - m) k (omega arith))
     ∙ sym (le-ltb (m + k) W (omega arith)))
 
-mirrored-within : (W m : ℕ) (z : ℤ) → m < W → within (place (pos (W - 1 - m) +ℤ negℤ z)) W ≡ within (place (pos m +ℤ z)) W
+mirrored-within : (W m : ℕ) (z : ℤ) → m < W
+    → within (place (pos (W - 1 - m) +ℤ negℤ z)) W ≡ within (place (pos m +ℤ z)) W
 mirrored-within W m (pos k) h = risen-within W m k h
 mirrored-within W m (negsuc k) h =
     let back : W - 1 - (W - 1 - m) ≡ m = omega arith in
