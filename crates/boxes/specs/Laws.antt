@@ -79,6 +79,16 @@ allowed-lies w h b e =
       bottom-in = leb-true _ _ (ends .1);
     }
 
+pub lies-allowed : (w h : ℕ) (b : HiddenBox) → Lies w h b → boxAllowed w h b ≡ true
+unfolding boxAllowed
+lies-allowed w h b x =
+    rw (
+      le-leb 1 (b .width) (x .some-wide),
+      le-leb 1 (b .height) (x .some-high),
+      le-leb (b .left + b .width) w (x .right-in),
+      le-leb (b .top + b .height) h (x .bottom-in),
+    ) refl
+
 -- where none is the first that is not allowed, each is allowed
 pub none-refused :
     (w h : ℕ) (boxes : List HiddenBox) → firstOf (answers (NotAllowed w h)) boxes ≡ length boxes

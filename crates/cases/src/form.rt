@@ -28,7 +28,7 @@ pub fn connected(dx: u8, dy: u8, phase: u8) -> Line {
 }
 
 // The connected line (dx, -1), in two's complement.
-pub fn falling(dx: u8) -> Line {
+pub fn falling_by_one(dx: u8) -> Line {
     Line {
         kind: 1,
         dx: dx,

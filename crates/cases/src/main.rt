@@ -103,7 +103,7 @@ fn cases_on_the_square() {
     square(b"11", ticket(ERODE, form::periodic(1, 1), 3, 1));
     square(b"12", ticket(DILATE, form::connected(2, 1, 0), 2, 1));
     square(b"13", ticket(DILATE, form::connected(2, 1, 1), 2, 1));
-    flipped_square(b"12 flipped", ticket(DILATE, form::falling(2), 2, 1));
+    flipped_square(b"12 flipped", ticket(DILATE, form::falling_by_one(2), 2, 1));
 }
 
 fn cases_at_the_limits() {

@@ -1,19 +1,14 @@
 -- Flipped boxes: they hide the flipped pixels, they lie on the page, and flipped again they are as they were.
 -- Assumes nothing.
-use mathlib.Core.Path.{_≡_, refl, sym, ap, ap₂, _∙_}
-use mathlib.Core.Bool.{Bool, true, false, not, _&&_, _||_, false≢true}
+use mathlib.Core.Path.{_≡_, refl, sym, ap, ap₂}
+use mathlib.Core.Bool.{Bool, true, false, not, _||_, false≢true}
 use mathlib.Core.List.{List, [], _∷_, map}
-use Prim.Native.Nat.{ℕ, zero, suc, _+_, _-_, _≤_, _<_}
+use Prim.Native.Nat.{ℕ, zero, suc, _+_, _-_, _<_}
 use native.Mathlib.Omega.{arith}
-use borrow.Author.Tests.{le-leb}
 use Rattle.geometry.specs.Drift.{mirrored}
 use Rattle.ticket.specs.declared.HiddenBox.{HiddenBox}
 use Rattle.boxes.specs.Boxes.{covers, hidden, boxAllowed}
-use Rattle.boxes.specs.Laws.{covers-inside, inside-covers, Lies, allowed-lies}
-use Rattle.job.specs.Judging.{judgePageBoxesFrom}
-use Rattle.refusal.specs.Chain.{unless, _then_}
-use Rattle.refusal.specs.declared.Answer.{Answer}
-use Rattle.refusal.specs.declared.Refusal.the-variants.{BadBox}
+use Rattle.boxes.specs.Laws.{covers-inside, inside-covers, Lies, allowed-lies, lies-allowed}
 use Rattle.demands.specs.Flip.{flippedBox, OnPage}
 
 -- tests that hold together are equal
@@ -74,19 +69,24 @@ module _ (w h : ℕ) where
           before-bottom = omega (arith, lies, x);
         }))
 
-    allowed-of :
-        (left top : ℕ) → left + b .width ≤ w → top + b .height ≤ h
-        → boxAllowed w h (record { left = left; top = top; width = b .width; height = b .height }) ≡ true
-    unfolding boxAllowed
-    allowed-of left top right-in bottom-in =
-        ap₂ _&&_
-        (ap₂ _&&_ (le-leb 1 (b .width) (lies .some-wide)) (le-leb 1 (b .height) (lies .some-high)))
-        (ap₂ _&&_ (le-leb (left + b .width) w right-in) (le-leb (top + b .height) h bottom-in))
-
     allowed-flipped : (steep : Bool) → boxAllowed w h (flippedBox steep w h b) ≡ true
     unfolding flippedBox
-    allowed-flipped true = allowed-of _ _ (omega (arith, lies)) (lies .bottom-in)
-    allowed-flipped false = allowed-of _ _ (lies .right-in) (omega (arith, lies))
+    allowed-flipped true =
+        lies-allowed w h _
+        (record {
+          some-wide = lies .some-wide;
+          some-high = lies .some-high;
+          right-in = omega (arith, lies);
+          bottom-in = lies .bottom-in;
+        })
+    allowed-flipped false =
+        lies-allowed w h _
+        (record {
+          some-wide = lies .some-wide;
+          some-high = lies .some-high;
+          right-in = lies .right-in;
+          bottom-in = omega (arith, lies);
+        })
 
     flipped-again : (steep : Bool) → flippedBox steep w h (flippedBox steep w h b) ≡ b
     unfolding flippedBox
@@ -129,17 +129,3 @@ module _ (w h : ℕ) where
     boxes-again (b ∷ boxes) ok =
         ap₂ (λ (x : HiddenBox) (xs : List HiddenBox). x ∷ xs) (flipped-again b (first-on b boxes ok) steep)
         (boxes-again boxes (rest-on b boxes ok))
-
-  -- ---- refusal 14
-
-  -- where each box of a list lies on the page, the list and its flip are judged alike
-  pub judged-alike :
-      (k : ℕ) (boxes : List HiddenBox) (steep : Bool) → OnPage w h boxes
-      → judgePageBoxesFrom w h k (map (flippedBox steep w h) boxes) ≡ judgePageBoxesFrom w h k boxes
-  unfolding judgePageBoxesFrom
-  judged-alike k [] steep ok = refl
-  judged-alike k (b ∷ boxes) steep ok =
-      let first = first-on b boxes ok in
-      ap₂ (λ (test : Bool) (rest : Answer). unless test BadBox k then rest)
-      (allowed-flipped b first steep ∙ sym first)
-      (judged-alike (suc k) boxes steep (rest-on b boxes ok))

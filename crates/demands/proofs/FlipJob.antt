@@ -1,14 +1,10 @@
 -- The flip of a job and of a job on a file: the answer, the work and what they leave; and what a flipped ticket is.
 -- Assumes nothing.
 use mathlib.Core.Path.{_≡_, sym, ap, ap₂, subst, _∙_}
-use mathlib.Core.Bool.{Bool, true, not, _&&_, _||_, cond}
-use mathlib.Core.Logic.{by-cases}
+use mathlib.Core.Bool.{Bool, true, not, _||_}
 use mathlib.Core.List.{List, map}
-use Prim.Native.Nat.{ℕ, _<_, max}
-use native.Mathlib.Decide.{decLe}
+use Prim.Native.Nat.{ℕ, _<_}
 use native.Mathlib.Omega.{arith}
-use borrow.Author.Tests.{le-leb, lt-ltb}
-use lib.Dec.{leb, ltb, eqb}
 use lib.IntN.{natAbs}
 use Rattle.geometry.specs.Vector.{shallow, steep}
 use Rattle.geometry.specs.Drift.{mirrored}
@@ -19,8 +15,8 @@ use Rattle.geometry.specs.declared.Line.{Line}
 use Rattle.refusal.specs.Chain.{_then_, then-on}
 use Rattle.refusal.specs.declared.Answer.{Answer}
 use Rattle.refusal.specs.declared.Answer.the-variants.{Done}
-use Rattle.ticket.specs.Judging.{judged, isPeriodic, divided, coprime, vectorAllowed, phaseAllowed}
-use Rattle.ticket.specs.Laws.{Allowed}
+use Rattle.ticket.specs.Judging.{judged, isPeriodic, vectorAllowed, phaseAllowed}
+use Rattle.ticket.specs.Laws.{Allowed, vector-passes, phase-passes, vector-by-sizes, phase-by-sizes}
 use Rattle.ticket.specs.Reading.{shown}
 use Rattle.ticket.specs.declared.HiddenBox.{HiddenBox}
 use Rattle.ticket.specs.declared.Ticket.{Ticket}
@@ -28,11 +24,11 @@ use Rattle.boxes.specs.Boxes.{boxesOf}
 use Rattle.placement.specs.Placement.{sourcePage}
 use Rattle.placement.specs.declared.Placements.{Placements}
 use Rattle.filter.specs.Seen.{runsSteep}
-use Rattle.job.specs.Order.{lineOf, pagesOf, white}
-use Rattle.job.specs.Judging.{judgeSides, judgeSource, judgeOutput, judgeScratch, judgePageBoxesFrom, judgePageBoxes}
+use Rattle.job.specs.Order.{lineOf, white}
 use Rattle.job.specs.Judging.{judgePlaces}
 use Rattle.job.specs.Job.{finishedWith, jobWork, answer, lengths}
-use Rattle.job.specs.Laws.{finished-job, finished-stands, finished-allowed, output-pixel}
+use Rattle.job.specs.Laws.{pages-by-operation, places-alike, finished-job, finished-stands, finished-allowed}
+use Rattle.job.specs.Laws.{output-pixel}
 use Rattle.job.specs.declared.Lengths.{Lengths}
 use Rattle.file.specs.FileJob.{header, filePage}
 use Rattle.file.specs.Laws as files
@@ -41,24 +37,13 @@ use Rattle.demands.specs.Files.{sourceOf}
 use Rattle.demands.specs.Flip.{flippedBox, OnPage, FlippedTicket, FlippedAnswer, FlippedJob, FlippedJobWork}
 use Rattle.demands.specs.Flip.{FlippedFile, FlippedFileWork, FlippedVector, FlippedBoxes, FlippedBack, LevelLine}
 use Rattle.demands.proofs.Flip.{line-runs, flipped-page, flipped-work}
-use Rattle.demands.proofs.FlipBoxes.{on-page-flipped, boxes-again, judged-alike}
+use Rattle.demands.proofs.FlipBoxes.{on-page-flipped, boxes-again}
 
 -- ---- the job
 
--- refusals 10 to 14 are judged alike
-places-alike :
-    (t t′ : Ticket) (p : Placements) (n : Lengths) → OnPage (p .width) (p .height) (boxesOf t)
-    → FlippedTicket (p .width) (p .height) t t′ → judgePlaces t′ p n ≡ judgePlaces t p n
-unfolding judgePlaces judgePageBoxes pagesOf
-places-alike t t′ p n on flip =
-    ap (λ (boxes : Answer).
-    judgeSides p
-    then judgeSource p (n .source)
-    then judgeOutput p (n .output)
-    then judgeScratch (pagesOf t) (p .width) (p .height) (n .scratch)
-    then boxes)
-    (ap (judgePageBoxesFrom (p .width) (p .height) 0) (flip .boxes)
-    ∙ judged-alike (p .width) (p .height) 0 (boxesOf t) (runsSteep (lineOf t)) on)
+pub flipped-boxes : FlippedBoxes
+flipped-boxes t t′ w h on flip =
+    subst (OnPage w h) (sym (flip .boxes)) (on-page-flipped w h (runsSteep (lineOf t)) (boxesOf t) on)
 
 pub flipped-answer : FlippedAnswer
 unfolding answer
@@ -69,8 +54,11 @@ flipped-answer ticket ticket′ p n work bytes done read flip =
     let on = finished-stands ticket p n work done .boxes in
     let works : jobWork t′ (p .width) (p .height) ≡ jobWork t (p .width) (p .height) =
     flipped-work t t′ (p .width) (p .height) (finished-allowed ticket p n work bytes done) flip in
+    let places : judgePlaces t′ p n ≡ judgePlaces t p n =
+    places-alike t t′ p n (pages-by-operation t t′ (flip .operation)) on
+    (flipped-boxes t t′ (p .width) (p .height) on flip) in
     then-on (judged ticket′) (judgePlaces t′ p n then Done (jobWork t′ (p .width) (p .height))) read
-    ∙ ap₂ (λ (places : Answer) (q : ℕ). places then Done q) (places-alike t t′ p n on flip) (works ∙ job .worked)
+    ∙ ap₂ (λ (judgement : Answer) (q : ℕ). judgement then Done q) places (works ∙ job .worked)
     ∙ then-on (judgePlaces t p n) (Done work) (job .placed)
 
 pub flipped-job : FlippedJob
@@ -141,10 +129,6 @@ flipped-file-work ticket ticket′ file file′ n n′ work work′ bytes done d
 
 -- ---- the ticket
 
-pub flipped-boxes : FlippedBoxes
-flipped-boxes t t′ w h on flip =
-    subst (OnPage w h) (sym (flip .boxes)) (on-page-flipped w h (runsSteep (lineOf t)) (boxesOf t) on)
-
 pub flipped-back : FlippedBack
 unfolding runsSteep
 flipped-back t t′ w h ok on flip =
@@ -185,44 +169,13 @@ negated w h t t′ ok flip =
       phase = ap (λ (k : Line). k .phase) (flip .line) ∙ flipped-phase l;
     }
 
--- the tests of a ticket that was read, by the two kinds of line
-module _ (t : Ticket) (ok : Allowed t) where
-  apart : isPeriodic (t .line) || coprime (t .dx) (t .dy) ≡ true
-  unfolding isPeriodic
-  apart =
-      by-cases
-      (decLe (t .line) 1)
-      (λ k.
-      let one : t .line ≡ 1 = omega (arith, ok .line-from) in
-      ap₂ (λ (n : ℕ) (b : Bool). eqb n 2 || b) one (ok .connected-coprime one))
-      (λ k.
-      let two : t .line ≡ 2 = omega (arith, ok .line-to) in
-      ap (λ (n : ℕ). eqb n 2 || coprime (t .dx) (t .dy)) two)
-
-  in-phase : phaseAllowed (isPeriodic (t .line)) (t .dx) (t .dy) (t .phase) ≡ true
-  unfolding isPeriodic phaseAllowed
-  in-phase =
-      by-cases
-      (decLe (t .line) 1)
-      (λ k.
-      let one : t .line ≡ 1 = omega (arith, ok .line-from) in
-      ap (λ (n : ℕ). cond (eqb n 2) (eqb (t .phase) 0) (ltb (t .phase) (max (natAbs (t .dx)) (natAbs (t .dy))))) one
-      ∙ lt-ltb _ _ (ok .connected-phase one))
-      (λ k.
-      let two : t .line ≡ 2 = omega (arith, ok .line-to) in
-      ap₂ (λ (n i : ℕ). cond (eqb n 2) (eqb i 0) (ltb (t .phase) (max (natAbs (t .dx)) (natAbs (t .dy))))) two
-      (ok .periodic-phase two))
-
 pub flipped-vector : FlippedVector
-unfolding vectorAllowed phaseAllowed coprime
 flipped-vector t t′ w h ok flip =
-    let same = negated w h t t′ ok flip in
-    let near : leb (natAbs (t′ .dx)) 255 && leb (natAbs (t′ .dy)) 255 ≡ true =
-    ap₂ (λ (x y : ℕ). leb x 255 && leb y 255) (same .dx) (same .dy)
-    ∙ ap₂ _&&_ (le-leb _ _ (ok .dx-to)) (le-leb _ _ (ok .dy-to)) in
-    let coprimes : isPeriodic (t′ .line) || coprime (t′ .dx) (t′ .dy) ≡ true =
-    (λ i. same .kind i || not (divided (same .dx i) (same .dy i) 2 254)) ∙ apart t ok in (
-      ap₂ _&&_ (ap₂ _&&_ (same .runs) near) coprimes,
-      (λ i. cond (same .kind i) (eqb (same .phase i) 0) (ltb (same .phase i) (max (same .dx i) (same .dy i))))
-          ∙ in-phase t ok,
+    let same = negated w h t t′ ok flip in (
+      ap (λ (kind : Bool). vectorAllowed kind (t′ .dx) (t′ .dy)) (same .kind)
+          ∙ vector-by-sizes (isPeriodic (t .line)) (t .dx) (t .dy) (t′ .dx) (t′ .dy) (same .dx) (same .dy) (same .runs)
+          (vector-passes t ok),
+      ap₂ (λ (kind : Bool) (i : ℕ). phaseAllowed kind (t′ .dx) (t′ .dy) i) (same .kind) (same .phase)
+          ∙ phase-by-sizes (isPeriodic (t .line)) (t .dx) (t .dy) (t′ .dx) (t′ .dy) (same .dx) (same .dy) (t .phase)
+          ∙ phase-passes t ok,
     )

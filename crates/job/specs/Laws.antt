@@ -1,7 +1,7 @@
 -- What a job that nothing refuses may rely on, in plain facts: nobody above unfolds the judging.
 -- Assumes nothing.
-use mathlib.Core.Path.{_≡_, refl, ap, _∙_}
-use mathlib.Core.Bool.{true, _&&_, and-eq-true-iff}
+use mathlib.Core.Path.{_≡_, refl, sym, ap, ap₂, _∙_}
+use mathlib.Core.Bool.{Bool, true, _&&_, and-eq-true-iff}
 use mathlib.Core.List.{List, [], _∷_}
 use Prim.Native.Nat.{ℕ, zero, suc, _≤_, _<_}
 use native.Mathlib.Omega.{arith}
@@ -44,6 +44,11 @@ pub pages-most : (t : Ticket) → pagesOf t ≤ 3
 unfolding pagesOf
 pages-most t = omega arith
 
+-- the operation alone says how many
+pub pages-by-operation : (t t′ : Ticket) → t′ .operation ≡ t .operation → pagesOf t′ ≡ pagesOf t
+unfolding pagesOf
+pages-by-operation t t′ same = refl
+
 -- ---- every box lies on the page
 
 pub boxes-allowed :
@@ -59,6 +64,35 @@ boxes-allowed w h k (b ∷ boxes) done (suc i) d below =
     i
     d
     (omega arith)
+
+pub boxes-done :
+    (w h k : ℕ) (boxes : List HiddenBox)
+    → ((i : ℕ) (d : HiddenBox) → i < length boxes → boxAllowed w h (getD boxes i d) ≡ true)
+    → judgePageBoxesFrom w h k boxes ≡ Done 0
+unfolding judgePageBoxesFrom unless _then_
+boxes-done w h k [] ok = refl
+boxes-done w h k (b ∷ boxes) ok =
+    ap (λ (test : Bool). unless test BadBox k then judgePageBoxesFrom w h (suc k) boxes) (ok 0 b (omega arith))
+    ∙ boxes-done w h (suc k) boxes (λ i d below. ok (suc i) d (omega arith))
+
+-- two tickets that keep as many pages, with boxes that the page allows, are judged alike
+pub places-alike :
+    (t t′ : Ticket) (p : Placements) (n : Lengths) → pagesOf t′ ≡ pagesOf t
+    → ((i : ℕ) (d : HiddenBox) → i < length (boxesOf t)
+    → boxAllowed (p .width) (p .height) (getD (boxesOf t) i d) ≡ true)
+    → ((i : ℕ) (d : HiddenBox) → i < length (boxesOf t′)
+    → boxAllowed (p .width) (p .height) (getD (boxesOf t′) i d) ≡ true)
+    → judgePlaces t′ p n ≡ judgePlaces t p n
+unfolding judgePlaces judgePageBoxes
+places-alike t t′ p n pages ok ok′ =
+    ap₂ (λ (k : ℕ) (boxes : Answer).
+    judgeSides p
+    then judgeSource p (n .source)
+    then judgeOutput p (n .output)
+    then judgeScratch k (p .width) (p .height) (n .scratch)
+    then boxes)
+    pages
+    (boxes-done (p .width) (p .height) 0 (boxesOf t′) ok′ ∙ sym (boxes-done (p .width) (p .height) 0 (boxesOf t) ok))
 
 -- ---- where the pages stand
 

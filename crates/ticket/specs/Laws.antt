@@ -1,15 +1,17 @@
 -- The laws of a ticket that was read, as callers cite them, with their proofs: its fields are allowed (Allowed), and
 -- what the reader shows at each answer. Assumes nothing.
 pub use Rattle.ticket.specs.Allowed.{TwoBytes, Allowed, Bytes}
-use mathlib.Core.Path.{_≡_, refl}
+use mathlib.Core.Path.{_≡_, refl, ap, ap₂, _∙_}
+use mathlib.Core.Logic.{by-cases}
 use Prim.Native.Nat.{ℕ, zero, suc, _+_, _-_, _<_, _≤_, max}
+use native.Mathlib.Decide.{decLe}
 use native.Mathlib.Omega.{arith}
-use borrow.Author.Tests.{ltb-true, leb-true, eqb-true}
-use mathlib.Core.Bool.{Bool, true, false, _&&_, _||_, cond}
+use borrow.Author.Tests.{ltb-true, leb-true, eqb-true, le-leb, lt-ltb}
+use mathlib.Core.Bool.{Bool, true, false, not, _&&_, _||_, cond}
 use mathlib.Core.List.{List, [], _∷_, _++_}
 use lib.ListN.{length, getD, take, replicate, length-append, length-replicate}
 use lib.Seq.{take-append-seam}
-use lib.Dec.{ltb, leb}
+use lib.Dec.{ltb, leb, eqb}
 use lib.IntN.{ℤ, natAbs}
 use Rattle.geometry.specs.Vector.{shallow, steep}
 use Rattle.refusal.specs.Answer.{isDone}
@@ -19,9 +21,11 @@ use Rattle.refusal.specs.declared.Refusal.{Refusal}
 use Rattle.refusal.specs.declared.Refusal.the-variants.{Unknown, BadVector, BadLength, BadOrigin, BadPhase}
 use Rattle.ticket.specs.Fields.{byteAt, numberAt, firstBox, fieldEnd, boxAt, boxesFrom, boxesIn, operationIn, lineIn, dxIn, dyIn, lengthIn, originIn, phaseIn}
 use Rattle.ticket.specs.Judging.{operationKnown, lineKnown, isPeriodic, coprime, vectorAllowed, lengthAllowed, originAllowed, phaseAllowed, judgeField, judgeOperation, judgeLine, judgeVector, judgeLength, judgeOrigin, judgePhase, judgeBoxes, judged}
+use Rattle.ticket.specs.Judging.{divided}
 use Rattle.ticket.specs.Reading.{noBox, blank, boxPlaces, shown, reading}
 use Rattle.ticket.specs.declared.HiddenBox.{HiddenBox}
 use Rattle.ticket.specs.declared.Reading.{Reading}
+use Rattle.ticket.specs.declared.Ticket.{Ticket}
 
 both : (a b : Bool) → (a && b) ≡ true → (a ≡ true) × (b ≡ true)
 both true b h = (refl, h)
@@ -213,3 +217,48 @@ unfolding reading
 read-allowed s r bytes e done =
     let good : isDone (judged s) ≡ true = rw e at done in
     rw (e, reading-good s good) (good-allowed s bytes good)
+
+-- ---- back from the fields to the tests of the reader, so that nobody above opens them
+
+-- a ticket is of one kind of line or of the other
+kinds : (t : Ticket) → Allowed t → (P : ℕ → Type 0) → (t .line ≡ 1 → P 1) → (t .line ≡ 2 → P 2) → P (t .line)
+kinds t ok P connected periodic =
+    by-cases
+    (decLe (t .line) 1)
+    (λ k.
+    let one : t .line ≡ 1 = omega (arith, ok .line-from) in
+    rw one (connected one))
+    (λ k.
+    let two : t .line ≡ 2 = omega (arith, ok .line-to) in
+    rw two (periodic two))
+
+-- the vector and the phase of a ticket with allowed fields pass them
+pub vector-passes : (t : Ticket) → Allowed t → vectorAllowed (isPeriodic (t .line)) (t .dx) (t .dy) ≡ true
+unfolding vectorAllowed isPeriodic
+vector-passes t ok =
+    ap₂ _&&_ (ap₂ _&&_ (ok .runs) (ap₂ _&&_ (le-leb _ _ (ok .dx-to)) (le-leb _ _ (ok .dy-to))))
+    (kinds t ok (λ (line : ℕ). (eqb line 2 || coprime (t .dx) (t .dy)) ≡ true) (ok .connected-coprime) (λ e. refl))
+
+pub phase-passes : (t : Ticket) → Allowed t → phaseAllowed (isPeriodic (t .line)) (t .dx) (t .dy) (t .phase) ≡ true
+unfolding phaseAllowed isPeriodic
+phase-passes t ok =
+    let below : ℕ = max (natAbs (t .dx)) (natAbs (t .dy)) in
+    kinds t ok (λ (line : ℕ). cond (eqb line 2) (eqb (t .phase) 0) (ltb (t .phase) below) ≡ true)
+    (λ e. lt-ltb _ _ (ok .connected-phase e))
+    (λ e. ap (λ (i : ℕ). eqb i 0) (ok .periodic-phase e))
+
+-- but for the slope they look at the components' sizes alone
+module _ (periodic : Bool) (dx dy dx′ dy′ : ℤ) (ex : natAbs dx′ ≡ natAbs dx) (ey : natAbs dy′ ≡ natAbs dy) where
+  pub vector-by-sizes : (shallow dx′ dy′ || steep dx′ dy′) ≡ true → vectorAllowed periodic dx dy ≡ true
+      → vectorAllowed periodic dx′ dy′ ≡ true
+  unfolding vectorAllowed coprime
+  vector-by-sizes runs ok =
+      let small = leb (natAbs dx) 255 && leb (natAbs dy) 255 in
+      let tests = both ((shallow dx dy || steep dx dy) && small) (periodic || coprime dx dy) ok in
+      let sizes = both (shallow dx dy || steep dx dy) small (tests .0) in
+      ap₂ _&&_ (ap₂ _&&_ runs (ap₂ (λ (x y : ℕ). leb x 255 && leb y 255) ex ey ∙ sizes .1))
+      (ap₂ (λ (x y : ℕ). periodic || not (divided x y 2 254)) ex ey ∙ tests .1)
+
+  pub phase-by-sizes : (i : ℕ) → phaseAllowed periodic dx′ dy′ i ≡ phaseAllowed periodic dx dy i
+  unfolding phaseAllowed
+  phase-by-sizes i = ap₂ (λ (x y : ℕ). cond periodic (eqb i 0) (ltb i (max x y))) ex ey
