@@ -33,6 +33,18 @@ static struct lent lend(const char *name, size_t length)
     return (struct lent){name, bytes + MARGIN, copy + MARGIN, length};
 }
 
+// A buffer of numbers. Memory from malloc starts where any number may, and so does what follows a
+// margin of whole numbers.
+static inline struct lent lend_numbers(const char *name, size_t count)
+{
+    return lend(name, count * sizeof(uint64_t));
+}
+
+static inline uint64_t *numbers_of(struct lent lent)
+{
+    return (uint64_t *)lent.bytes;
+}
+
 static void print_wrong(struct lent lent, int read_only)
 {
     if (read_only && memcmp(lent.bytes, lent.copy, lent.length) != 0)

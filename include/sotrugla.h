@@ -1,5 +1,5 @@
-/* Sotrugla: one grey page of a tray filtered along lines into another tray, as a job ticket orders; or the
- * page of a raw Netpbm grey file (P5) into another such file.
+/* Sotrugla: one grey page of a tray filtered along lines into another tray, as a job ticket orders; or a
+ * whole list of such jobs on the same trays; or the page of a raw Netpbm grey file (P5) into another such file.
  *
  * A page is placed in a tray of bytes by its offset, sides and stride: the pixel at column c, row r is
  * byte offset + r * stride + c. Source and output pages share their sides.
@@ -7,14 +7,16 @@
  * Every ticket, placement and buffer length gets an answer; what each function of the library answers and
  * writes is proved for all of them. Four things the library cannot see, and the caller must keep:
  *   - a buffer has as many bytes (or numbers) as its length says; a buffer of length 0 may be NULL;
- *   - the buffers of one call do not overlap, but for those that are only read: ticket and source, or file;
+ *   - the buffers of one call do not overlap, but for those that are only read: tickets, a list's jobs, the
+ *     source, a file;
  *   - nobody else writes to a buffer, or reads one that is written, while a call runs;
  *   - a call needs 256 KiB of stack.
  * The caller owns every buffer before, during and after a call. Nothing is allocated or kept, there is
  * no state and no lock: threads may call at the same time with buffers of their own.
  *
- * The inline functions are this header's own, tested and not proved: they name a job's numbers, write a
- * ticket's bytes and put refusals into sentences. Those whose names end in _ serve the others alone. */
+ * The inline functions are this header's own, tested and not proved: they name the numbers of a job and of a
+ * list, write a ticket's bytes and put refusals into sentences. Those whose names end in _ serve the others
+ * alone. */
 #ifndef SOTRUGLA_H
 #define SOTRUGLA_H
 
@@ -22,8 +24,8 @@
 #include <stdint.h>
 #include <string.h>
 
-#define SOTRUGLA_VERSION "0.4.0"
-#define SOTRUGLA_VERSION_NUMBER 4000 /* 1000000 * major + 1000 * minor + patch */
+#define SOTRUGLA_VERSION "0.5.0"
+#define SOTRUGLA_VERSION_NUMBER 5000 /* 1000000 * major + 1000 * minor + patch */
 
 #if SIZE_MAX != UINT64_MAX
 #error "Sotrugla is for machines whose sizes are 64-bit numbers"
@@ -39,13 +41,15 @@ uint64_t sotrugla_version(void);
 /* An answer. refusal is 0 for a finished page, else the refusal's number, and place says where: the
  * ticket's byte where the field at fault starts (refusals 1 to 9), the number of the box from 0 (14), the
  * file's first byte at fault, or its length where it ends too soon (15 to 17), the numbers needed (100),
- * else 0. work is the count of comparisons; a refusal has 0. */
+ * else 0. work is the count of comparisons; a refusal has 0. The answer to a whole list is 0, 0, 0 where its
+ * jobs have answers of their own, whatever these are. */
 struct sotrugla_outcome {
     uint64_t refusal, place, work;
 };
 
-/* 1 to 25 are kept for the law's refusals, of which later versions may know more. 100 is the answer to
- * every call that is handed a buffer of numbers too short; nothing is written then. */
+/* 1 to 25 are kept for the law's refusals, of which later versions may know more. 18 is that of a whole list:
+ * no job of it has been looked at. 100 is the answer to every call that is handed a buffer of numbers too
+ * short; nothing is written then. */
 enum {
     SOTRUGLA_TICKET_ENDS = 1,
     SOTRUGLA_WRONG_TAG = 2,
@@ -64,6 +68,7 @@ enum {
     SOTRUGLA_BAD_HEADER = 15,
     SOTRUGLA_BAD_MAXIMUM = 16,
     SOTRUGLA_BAD_PIXEL = 17,
+    SOTRUGLA_TOO_MANY_JOBS = 18,
     SOTRUGLA_NUMBERS_TOO_FEW = 100
 };
 
@@ -293,6 +298,96 @@ static inline struct sotrugla_outcome sotrugla_run_job(const struct sotrugla_job
                         job->output_length, job->scratch, job->scratch_length);
 }
 
+/* The most jobs of a list, the numbers of each job and of each answer, and those of all answers. */
+enum {
+    SOTRUGLA_LIST_JOBS = 256,
+    SOTRUGLA_JOB_NUMBERS = 8,
+    SOTRUGLA_ANSWER_NUMBERS = 3,
+    SOTRUGLA_LIST_ANSWERS = SOTRUGLA_LIST_JOBS * SOTRUGLA_ANSWER_NUMBERS
+};
+
+/* A job of a list, as its eight numbers. Its ticket is ticket_length bytes of the list's tickets, from
+ * ticket_start on: jobs may share one. Its pages stand in the two trays that the whole list shares. */
+struct sotrugla_listed_job {
+    uint64_t ticket_start, ticket_length;
+    uint64_t width, height;
+    uint64_t source_offset, source_stride;
+    uint64_t output_offset, output_stride;
+};
+
+/* Runs a list of jobs on one source tray, one output tray and one scratch. Answers, trays and scratch are those
+ * of a call of sotrugla_run for each job, in list order: a refused job is answered and the rest go on.
+ *   count     the jobs of the list, up to SOTRUGLA_LIST_JOBS; none is a list, too
+ *   jobs      read only; SOTRUGLA_JOB_NUMBERS numbers for each job, in the order of struct sotrugla_listed_job;
+ *             numbers past those of the list are not looked at
+ *   tickets   read only; a ticket that does not stand wholly in this buffer counts as empty: refused 1 at 0
+ *   source    read only, and of it only the bytes of the jobs' pages
+ *   output    written: the bytes of the finished pages, nothing else. Places may overlap: there the bytes of
+ *             the last finished job stand
+ *   scratch   as in sotrugla_run, for each job by itself: the largest sotrugla_scratch_needed is enough for all
+ *   answers   its first SOTRUGLA_LIST_ANSWERS numbers are written: those of struct sotrugla_outcome for each
+ *             job in list order, and 0 past the list; later numbers keep their values
+ * What output, scratch and answers held before changes nothing in the answers or the pages.
+ * Refusals of the whole list, in this order, before any job: output and scratch are not written, the work is 0.
+ *   100  fewer than SOTRUGLA_LIST_ANSWERS answers: the place is SOTRUGLA_LIST_ANSWERS, no answer is written
+ *   18   count is above SOTRUGLA_LIST_JOBS: the place is 0, and so are the first SOTRUGLA_LIST_ANSWERS answers
+ *   100  fewer numbers of jobs than count needs: the place is the numbers needed, no answer is written
+ * Otherwise the answer is 0, 0, 0: the work of each job is in its own.
+ * Cost: that of the single calls. */
+struct sotrugla_outcome sotrugla_run_tray(size_t count, const uint64_t *jobs, size_t jobs_length,
+                                          const uint8_t *tickets, size_t tickets_length,
+                                          const uint8_t *source, size_t source_length,
+                                          uint8_t *output, size_t output_length, uint8_t *scratch,
+                                          size_t scratch_length, uint64_t *answers,
+                                          size_t answers_length);
+
+/* A list by names. */
+struct sotrugla_list {
+    size_t count; /* of jobs */
+    const struct sotrugla_listed_job *jobs;
+    const uint8_t *tickets;
+    size_t tickets_length;
+    const uint8_t *source;
+    size_t source_length;
+    uint8_t *output;
+    size_t output_length;
+    uint8_t *scratch;
+    size_t scratch_length;
+};
+
+/* sotrugla_run_tray on the list's jobs and buffers: the only refusal of the whole list is 18. answers has room
+ * for every answer of the longest list. */
+static inline struct sotrugla_outcome
+sotrugla_run_list(const struct sotrugla_list *list,
+                  struct sotrugla_outcome answers[SOTRUGLA_LIST_JOBS])
+{
+    return sotrugla_run_tray(list->count, (const uint64_t *)list->jobs,
+                             list->count * SOTRUGLA_JOB_NUMBERS, list->tickets,
+                             list->tickets_length, list->source, list->source_length, list->output,
+                             list->output_length, list->scratch, list->scratch_length,
+                             (uint64_t *)answers, SOTRUGLA_LIST_ANSWERS);
+}
+
+/* A job of the list by itself, its number counted from 0 and below count: sotrugla_run_job on each of them in
+ * turn answers and writes what sotrugla_run_list does. */
+static inline struct sotrugla_job sotrugla_single_job(const struct sotrugla_list *list,
+                                                      size_t number)
+{
+    const struct sotrugla_listed_job *listed = list->jobs + number;
+    int within = listed->ticket_start <= list->tickets_length &&
+                 listed->ticket_length <= list->tickets_length - listed->ticket_start;
+    struct sotrugla_job job;
+    job.ticket_length = within ? listed->ticket_length : 0;
+    job.ticket = job.ticket_length ? list->tickets + listed->ticket_start : NULL;
+    job.width = listed->width, job.height = listed->height;
+    job.source = list->source, job.source_length = list->source_length;
+    job.source_offset = listed->source_offset, job.source_stride = listed->source_stride;
+    job.output = list->output, job.output_length = list->output_length;
+    job.output_offset = listed->output_offset, job.output_stride = listed->output_stride;
+    job.scratch = list->scratch, job.scratch_length = list->scratch_length;
+    return job;
+}
+
 /* A refusal in a sentence for an operator; the place stands beside it in the outcome. */
 static inline const char *sotrugla_sentence(uint64_t refusal)
 {
@@ -315,13 +410,14 @@ static inline const char *sotrugla_sentence(uint64_t refusal)
         "the file is no raw grey Netpbm file (P5), its header is damaged, or its maximum is 0",
         "the file's maximum is above 255",
         "a pixel of the file is above its maximum, or the file has too few pixels",
+        "the list has more than 256 jobs",
     };
     if (refusal == SOTRUGLA_NUMBERS_TOO_FEW)
         return "the buffer of numbers is too short";
     return refusal < sizeof sentences / sizeof *sentences ? sentences[refusal] : "unknown refusal";
 }
 
-/* The three functions below are sotrugla_sentence for an answer to what they are handed, but say which rule
+/* The four functions below are sotrugla_sentence for an answer to what they are handed, but say which rule
  * of a vector (6), or which number of a placement (10), is at fault. Each sentence stands whole on one line,
  * so that a search finds it. */
 
@@ -367,6 +463,15 @@ static inline const char *sotrugla_job_sentence(uint64_t refusal, const struct s
     if (job->source_stride < job->width || job->source_stride > 16384)
         return "the source stride is not from the width to 16384";
     return "the output stride is not from the width to 16384";
+}
+
+/* For sotrugla_run_list, and for sotrugla_run_tray by a list of its buffers: the sentence of the answer to one
+ * job, its number counted from 0. The answer to the whole list has its sentence from sotrugla_sentence. */
+static inline const char *sotrugla_listed_sentence(uint64_t refusal,
+                                                   const struct sotrugla_list *list, size_t number)
+{
+    struct sotrugla_job job = sotrugla_single_job(list, number);
+    return sotrugla_job_sentence(refusal, &job);
 }
 
 /* For sotrugla_run_pgm, and with NULL and 0 for sotrugla_read_pgm. */

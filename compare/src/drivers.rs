@@ -11,10 +11,11 @@ use crate::refusal::{BOX_OFF_PAGE, PHASE, PIXELS, SOURCE_DOES_NOT_FIT, TICKET_EN
 use crate::ticket_list::LONGEST_LIST;
 use crate::trial::{hex, Due, Trial};
 use crate::{file_job, file_list, flip, job_list, marks, number_list, ticket_list};
+use crate::{tray, tray_list, tray_marks};
 
 pub type Driver = fn(u64, u64, &[&str]) -> io::Result<Trial>;
 
-/// Jobs for one run of a job program or a file program.
+/// Jobs for one run of a job program or a file program, and lists for one of a tray program.
 const JOBS_A_RUN: u64 = 50;
 
 /// The page program, one run an input.
@@ -168,6 +169,26 @@ pub fn files(seed: u64, count: u64, program: &[&str]) -> io::Result<Trial> {
             kinds.iter().for_each(|kind| trial.count(kind, 1));
             let text = file_list::line(&job, &outcome);
             batch.push(file_list::entry(&job), Due { index, input: file_list::told(&job), text });
+        }
+        trial.ask(program, &batch.list, &batch.dues)?;
+    }
+    Ok(trial)
+}
+
+/// The tray program, many lists a run, as the job program.
+pub fn lists(seed: u64, count: u64, program: &[&str]) -> io::Result<Trial> {
+    let mut trial = Trial::new(seed, count, "lists of jobs");
+    // Every list has the same marks by name.
+    let call = generate::tray_call(seed, 0);
+    tray_marks::of(&call, &tray::run(&call)).iter().for_each(|(mark, _)| trial.require(mark));
+    for indices in runs(count, JOBS_A_RUN) {
+        let mut batch = Batch::default();
+        for index in indices {
+            let call = generate::tray_call(seed, index);
+            let outcome = tray::run(&call);
+            trial.count_marks(&tray_marks::of(&call, &outcome));
+            let text = tray_list::line(&outcome);
+            batch.push(tray_list::entry(&call), Due { index, input: tray_list::told(&call), text });
         }
         trial.ask(program, &batch.list, &batch.dues)?;
     }

@@ -13,6 +13,8 @@ mod flips;
 mod inputs;
 mod jobs;
 mod lists;
+mod tray_jobs;
+mod trays;
 
 pub use draft::Draft;
 pub use files::{kinds as file_kinds, MadeFile, CUT_FILES};
@@ -23,6 +25,7 @@ use crate::job::Job;
 use crate::lines::{Lines, Sides};
 use crate::random::Random;
 use crate::ticket::{CONNECTED, PERIODIC};
+use crate::tray::Call;
 
 /// How an input is made. A boundary one may be accepted or refused; a damaged one is mostly
 /// refused, yet a flipped bit can leave a ticket valid.
@@ -84,6 +87,11 @@ pub fn flip_pair(seed: u64, index: u64) -> [Job; 2] {
 /// A whole job on a P5 file, with random old contents.
 pub fn file_job(seed: u64, index: u64) -> MadeFile {
     files::file_job(&mut Random::new(seed, index), index)
+}
+
+/// A whole list of jobs on one pair of trays, with random old contents.
+pub fn tray_call(seed: u64, index: u64) -> Call {
+    trays::call(&mut Random::new(seed, index))
 }
 
 pub fn line_sample(seed: u64, index: u64) -> LineSample {

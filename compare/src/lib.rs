@@ -14,17 +14,18 @@
 //! - `job`: a whole job, its answer and the later contents of output tray and scratch
 //! - `pgm`: a P5 file to its header or a refusal, and the header that is written
 //! - `file_job`: a whole job on a P5 file
+//! - `tray`: a whole list of jobs in one call
 //! - `page_program`: standard input of the page program to what it must print
-//! - `ticket_list`, `number_list`, `job_list`, `file_list`: the same for the programs that read
-//!   tickets, number steps, run jobs, and run jobs on files
-//! - `marks`: what a summary counts of a job
+//! - `ticket_list`, `number_list`, `job_list`, `file_list`, `tray_list`: the same for the programs
+//!   that read tickets, number steps, run jobs, run jobs on files, and run whole lists of jobs
+//! - `marks`, `tray_marks`: what a summary counts of a job, and of a list of jobs
 //! - `random`, `generate`: seeded inputs of every kind, for this and for other programs
 //! - `program`: another program run once, held to a time limit
 //! - `trial`: what was printed held against what was due
 //! - `drivers`: each kind of program run over generated inputs
 //!
-//! The library's own job program is `host.c`, beside this source, and its program for jobs on files
-//! is `file_host.c`.
+//! The library's own job program is `host.c`, beside this source, its program for jobs on files is
+//! `file_host.c`, and its program for lists of jobs `tray_host.c`.
 
 pub mod drivers;
 pub mod file_job;
@@ -45,5 +46,8 @@ pub mod random;
 pub mod refusal;
 pub mod ticket;
 pub mod ticket_list;
+pub mod tray;
+pub mod tray_list;
+pub mod tray_marks;
 pub mod trial;
 pub mod work;

@@ -5,7 +5,7 @@ use std::process::ExitCode;
 
 use compare::drivers::Driver;
 use compare::page_program::reply;
-use compare::{drivers, file_list, generate, job_list, number_list, ticket_list};
+use compare::{drivers, file_list, generate, job_list, number_list, ticket_list, tray_list};
 
 const USAGE: &str = "usage:
   compare page                            read a page program's input, print what it must print
@@ -14,10 +14,12 @@ const USAGE: &str = "usage:
   compare number-list                     read a number program's input, print what it must print
   compare job-list                        read a job program's input, print what it must print
   compare file-list                       read a file program's input, print what it must print
+  compare tray-list                       read a tray program's input, print what it must print
   compare make SEED INDEX                 write one generated input of a page program
   compare make-jobs SEED FIRST COUNT      write generated jobs, an input of a job program
   compare make-flips SEED FIRST COUNT     write other such jobs, each followed by its flipped job
   compare make-files SEED FIRST COUNT     write generated jobs on files, an input of a file program
+  compare make-lists SEED FIRST COUNT     write generated lists of jobs, an input of a tray program
 PROGRAM may be several words, the program and its arguments:
   compare pages SEED COUNT PROGRAM..      run a page program over generated inputs and compare
   compare tickets SEED COUNT PROGRAM..    run a ticket program over generated tickets and compare
@@ -25,7 +27,8 @@ PROGRAM may be several words, the program and its arguments:
   compare jobs SEED COUNT PROGRAM..       run a job program over generated jobs and compare
   compare flips SEED COUNT PROGRAM..      run a job program over generated jobs and their flipped
                                           jobs, compare, and hold the two to one another
-  compare files SEED COUNT PROGRAM..      run a file program over generated files and compare";
+  compare files SEED COUNT PROGRAM..      run a file program over generated files and compare
+  compare lists SEED COUNT PROGRAM..      run a tray program over generated lists and compare";
 
 fn main() -> ExitCode {
     let words: Vec<String> = std::env::args().skip(1).collect();
@@ -50,6 +53,7 @@ fn did(words: &[&str]) -> Option<io::Result<ExitCode>> {
         ["make", seed, index] => print(&generate::page_input(number(seed)?, number(index)?)),
         ["job-list"] => answer(job_list::printed),
         ["file-list"] => answer(file_list::printed),
+        ["tray-list"] => answer(tray_list::printed),
         [word, seed, first, count] if word.starts_with("make-") => {
             print_all(entry(word)?, number(seed)?, number(first)?, number(count)?)
         }
@@ -88,6 +92,7 @@ fn entry(word: &str) -> Option<Entry> {
             generate::flip_pair(seed, index).map(|job| job_list::entry(&job)).concat()
         }),
         "make-files" => Some(|seed, index| file_list::entry(&generate::file_job(seed, index).job)),
+        "make-lists" => Some(|seed, index| tray_list::entry(&generate::tray_call(seed, index))),
         _ => None,
     }
 }
@@ -106,6 +111,7 @@ fn driver(word: &str) -> Option<Driver> {
         "jobs" => Some(drivers::jobs),
         "flips" => Some(drivers::flips),
         "files" => Some(drivers::files),
+        "lists" => Some(drivers::lists),
         _ => None,
     }
 }

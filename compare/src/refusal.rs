@@ -1,7 +1,9 @@
-//! The numbers of document 01, "Refusals and what they return", and those of wish 1.
+//! The numbers of document 01, "Refusals and what they return", those of wishes 1 and 3, and one
+//! that is the library's own.
 
-/// Why a ticket, a file or a job is refused. The place is a byte of the ticket for numbers 1 to 9,
-/// a box number for 14, a byte of the file for 15 to 17, and 0 for the rest.
+/// Why a ticket, a file, a job or a list of jobs is refused. The place is a byte of the ticket for
+/// numbers 1 to 9, a box number for 14, a byte of the file for 15 to 17, the numbers needed for
+/// 100, and 0 for the rest.
 #[derive(Clone, Copy, Debug, PartialEq, Eq)]
 pub struct Refusal {
     pub number: u8,
@@ -28,6 +30,9 @@ pub const BOX_OFF_PAGE: u8 = 14;
 pub const HEADER: u8 = 15;
 pub const MAXIMUM: u8 = 16;
 pub const PIXELS: u8 = 17;
+pub const TOO_MANY_JOBS: u8 = 18;
+/// In no document: a lent buffer of numbers is too short.
+pub const NUMBERS_TOO_FEW: u8 = 100;
 
 /// The refusal, unless what it asks for holds.
 pub fn unless(holds: bool, number: u8, place: u64) -> Result<(), Refusal> {

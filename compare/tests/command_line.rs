@@ -5,9 +5,9 @@ use std::io::Write;
 use std::process::{Command, Output, Stdio};
 use std::time::Duration;
 
-use compare::generate::{file_job, flip_pair, job, page_input};
+use compare::generate::{file_job, flip_pair, job, page_input, tray_call};
 use compare::trial::Trial;
-use compare::{file_list, job_list, program};
+use compare::{file_list, job_list, program, tray_list};
 
 const COMPARE: &str = env!("CARGO_BIN_EXE_compare");
 
@@ -30,6 +30,8 @@ fn words_that_print() {
     assert_eq!(compare(&["make-flips", "1", "5", "1"], b"").stdout, flips);
     let files = [5, 6].map(|index| file_list::entry(&file_job(1, index).job)).concat();
     assert_eq!(compare(&["make-files", "1", "5", "2"], b"").stdout, files);
+    let lists = [5, 6].map(|index| tray_list::entry(&tray_call(1, index))).concat();
+    assert_eq!(compare(&["make-lists", "1", "5", "2"], b"").stdout, lists);
     assert_eq!(compare(&["page"], b"\0\x03\0").stdout, b"bad input\n");
     assert_eq!(compare(&["ticket"], b"").stdout, b"refused 1 at 0\n");
     let ticket = b"\x01\0\x01\x04\x02\0\x01\x02\x03\0\x04\0\x03\xFF\xFE\x04\0\x02\0\x07\
@@ -43,6 +45,8 @@ fn words_that_print() {
     assert_eq!(compare(&["job-list"], &[0; 80]).stdout, b"1 0 0 output  scratch \n");
     let line = b"read 15 0 0 0 0 0 run 1 0 0 0 output  scratch \n";
     assert_eq!(compare(&["file-list"], &[0; 32]).stdout, line);
+    let line = b"100 768 0 answers output  scratch \n";
+    assert_eq!(compare(&["tray-list"], &[0; 56]).stdout, line);
 }
 
 #[test]
@@ -53,7 +57,7 @@ fn words_that_say_nothing() {
     for words in [&short[..], &[&no_number, &no_list]].concat() {
         assert_eq!(compare(words, b"").status.code(), Some(2));
     }
-    for word in ["pages", "tickets", "numbers", "jobs", "flips", "files"] {
+    for word in ["pages", "tickets", "numbers", "jobs", "flips", "files", "lists"] {
         assert_eq!(compare(&[word, "1", "1"], b"").status.code(), Some(2));
         assert_eq!(compare(&[word, "1", "1", "/no/such/program"], b"").status.code(), Some(2));
     }
@@ -85,6 +89,7 @@ fn drivers_agree_with_this_reading() {
         ("jobs", 120, "job-list", "120 jobs"),
         ("flips", 120, "job-list", "120 jobs and their flipped jobs"),
         ("files", 120, "file-list", "120 files"),
+        ("lists", 120, "tray-list", "120 lists of jobs"),
     ] {
         let (text, _) = driven(word, count, &[COMPARE, answers]);
         assert!(text.starts_with(&format!("{what}, 0 differences\n")), "{text}");
@@ -154,6 +159,20 @@ fn lines_of_files_are_compared_whole() {
         ("/$/ file changed/", 120),
     ] {
         assert!(by_shell("files", 120, &format!("compare file-list | sed 's{wrong}'")).1 >= least);
+    }
+}
+
+#[test]
+fn lines_of_lists_are_compared_whole() {
+    for (wrong, least) in [
+        ("/..$/00/", 20),
+        ("/^0 0 0/0 0 7/", 60),
+        ("/0\\(\\*[0-9]* output\\)/7\\1/", 60),
+        ("/answers [0-9]*/answers 7/", 60),
+        ("/.. scratch/00 scratch/", 60),
+        ("/ output/ jobs changed output/", 120),
+    ] {
+        assert!(by_shell("lists", 120, &format!("compare tray-list | sed 's{wrong}'")).1 >= least);
     }
 }
 

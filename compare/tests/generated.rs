@@ -11,7 +11,8 @@ use compare::page_program::{reply, Reply};
 use compare::pgm;
 use compare::placement::scratch_needed;
 use compare::ticket::{read, shown, CLOSE, ERODE};
-use compare::{file_job, file_list};
+use compare::tray::{self, ANSWERS, ANSWER_NUMBERS};
+use compare::{file_job, file_list, tray_list, tray_marks};
 
 #[test]
 fn two_thousand_page_inputs_bring_every_answer() {
@@ -163,6 +164,32 @@ fn small_files_are_cut_at_every_byte() {
     }
     let read = CUT_FILES.map(|file| pgm::shown(file).0.number);
     assert_eq!(read, [0, 0, 15, 16]);
+}
+
+#[test]
+fn lists_bring_all_that_is_counted_and_write_only_what_they_may() {
+    let (mut numbers, mut missed) = (BTreeSet::new(), BTreeSet::new());
+    for index in 0..2000 {
+        let call = generate::tray_call(3, index);
+        let outcome = tray::run(&call);
+        numbers.insert(outcome.answer.refusal);
+        assert_eq!(tray_list::first(&tray_list::entry(&call)), Some((call.clone(), &[][..])));
+        still_missed(&mut missed, index, tray_marks::of(&call, &outcome));
+        if outcome.answer.refusal != 0 {
+            assert_eq!((&outcome.output, &outcome.scratch), (&call.output, &call.scratch));
+        }
+        if outcome.answer.refusal == 100 {
+            assert_eq!(outcome.answers, call.answers);
+            continue;
+        }
+        let jobs = if outcome.answer.refusal == 0 { call.count as usize } else { 0 };
+        let (given, zero) = outcome.answers[..ANSWERS].split_at(ANSWER_NUMBERS * jobs);
+        assert!(given.chunks(ANSWER_NUMBERS).all(|answer| answer[0] <= 14));
+        assert!(zero.iter().all(|&number| number == 0));
+        assert_eq!(outcome.answers[ANSWERS..], call.answers[ANSWERS..]);
+    }
+    assert_eq!(numbers, [0, 18, 100].into());
+    assert_eq!(missed, BTreeSet::new());
 }
 
 #[test]

@@ -19,8 +19,9 @@
 //! # Ok::<(), sotrugla::Refused>(())
 //! ```
 //!
-//! A page that arrives as a raw Netpbm grey file (P5) leaves as one: [`filter_pgm`] takes the file's
-//! bytes and gives those of another.
+//! A whole tray is cleaned in one call: [`filter_tray`] takes a list of up to 256 such jobs, and answers each
+//! of them. A page that arrives as a raw Netpbm grey file (P5) leaves as one: [`filter_pgm`] takes the
+//! file's bytes and gives those of another.
 //!
 //! # From another crate
 //!
@@ -56,11 +57,13 @@ mod page;
 mod pgm;
 mod refusal;
 mod ticket;
+mod tray;
 
 pub use page::{filter, Page, Spot};
 pub use pgm::{filter_pgm, read_pgm, Pgm, Written};
 pub use refusal::{Refusal, Refused};
 pub use ticket::{HiddenBox, Line, Operation, Ticket, TicketBytes};
+pub use tray::{filter_tray, TrayJob};
 
 /// The version of this crate, which is that of the library it was built with.
 pub const VERSION: &str = env!("CARGO_PKG_VERSION");

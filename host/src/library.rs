@@ -1,6 +1,7 @@
 //! The functions of include/sotrugla.h, where their promises stand.
 
 #[repr(C)]
+#[derive(Clone, Copy)]
 pub struct Outcome {
     pub refusal: u64,
     pub place: u64,
@@ -31,6 +32,10 @@ pub const PGM_HEADER: usize = 17;
 /// How many numbers `sotrugla_read_ticket` writes: eight, and four for each of 64 box places.
 pub const NUMBERS: usize = 8 + 4 * 64;
 
+/// The most jobs of a list, each of which has an answer; an answer has three numbers.
+pub const LIST_JOBS: usize = 256;
+pub const ANSWER_NUMBERS: usize = 3;
+
 extern "C" {
     pub fn sotrugla_version() -> u64;
 
@@ -49,6 +54,22 @@ extern "C" {
         output_length: usize,
         scratch: *mut u8,
         scratch_length: usize,
+    ) -> Outcome;
+
+    pub fn sotrugla_run_tray(
+        count: usize,
+        jobs: *const u64,
+        jobs_length: usize,
+        tickets: *const u8,
+        tickets_length: usize,
+        source: *const u8,
+        source_length: usize,
+        output: *mut u8,
+        output_length: usize,
+        scratch: *mut u8,
+        scratch_length: usize,
+        answers: *mut u64,
+        answers_length: usize,
     ) -> Outcome;
 
     pub fn sotrugla_scratch_needed(width: usize, height: usize) -> usize;

@@ -1,6 +1,6 @@
 //! Where pages stand in their trays, and the job.
 
-use crate::library;
+use crate::library::{self, Outcome};
 use crate::refusal::{judged, Refused};
 use crate::ticket::TicketBytes;
 
@@ -93,6 +93,11 @@ pub fn filter(
             scratch.len(),
         )
     };
+    answered(outcome, ticket, page)
+}
+
+/// The work of a job, or why it is refused.
+pub(crate) fn answered(outcome: Outcome, ticket: &[u8], page: Page) -> Result<u64, Refused> {
     judged(outcome.refusal, outcome.place)
         .map_err(|refused| refused.of_ticket(ticket).of_page(page))?;
     Ok(outcome.work)

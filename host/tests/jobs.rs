@@ -120,7 +120,7 @@ fn is_of_today(refusal: Refusal) -> bool {
         TicketEnds | WrongTag | WrongLength | Unknown | TooManyBoxes => true,
         BadVector | BadLength | BadOrigin | BadPhase | BadSides => true,
         SourceTooShort | OutputTooShort | ScratchTooShort | BadBox => true,
-        BadHeader | BadMaximum | BadPixel | NumbersTooFew => true,
+        BadHeader | BadMaximum | BadPixel | TooManyJobs | NumbersTooFew => true,
         _ => false,
     }
 }

@@ -18,6 +18,12 @@ another. And run filters one page of a tray, where pages stand side by side, int
     >>> list(output)
     [1, 1, 5]
 
+A whole tray is filtered in one call: run_tray takes a list of up to 256 such jobs, and answers each of them.
+
+    >>> jobs = [TrayJob(ticket, page._replace(offset=at), Spot(offset=at, stride=3)) for at in (0, 4)]
+    >>> [result.work for result in run_tray(jobs, bytes([9, 1, 5, 77, 7, 3, 8]), bytearray(7))]
+    [6, 6]
+
 Trays may be any buffers of bytes in one piece: bytes, bytearray, memoryview, mmap, arrays of uint8. They are lent, not
 copied. Lengths are taken from the buffers, numbers are passed by name, and buffers that overlap are refused, so a call
 is hard to get wrong. Two things are left to the caller. Other threads run on during a call, and must keep off its
@@ -26,10 +32,11 @@ where its size can be known, as on Linux, and elsewhere may end the process.
 """
 
 # Before the imports: the library is held to it as it is loaded.
-__version__ = "0.4.0"
+__version__ = "0.5.0"
 
 from .arrays import closing, dilation, erosion, opening
 from .files import Pgm, Written, read_pgm, run_pgm
+from .lists import Result, TrayJob, run_tray
 from .refusals import SENTENCES, Refused
 from .tickets import (
     CLOSE,
@@ -57,8 +64,10 @@ __all__ = [
     "Page",
     "Pgm",
     "Refused",
+    "Result",
     "Spot",
     "Ticket",
+    "TrayJob",
     "Written",
     "closing",
     "dilation",
@@ -69,5 +78,6 @@ __all__ = [
     "read_ticket",
     "run",
     "run_pgm",
+    "run_tray",
     "scratch_needed",
 ]

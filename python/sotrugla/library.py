@@ -23,7 +23,7 @@ def _numbers(*names: str) -> list[tuple[str, type]]:
     return [(name, ctypes.c_uint64) for name in names]
 
 
-class _Outcome(ctypes.Structure):
+class Outcome(ctypes.Structure):
     _fields_ = _numbers("refusal", "place", "work")
 
 
@@ -38,9 +38,10 @@ class _Written(ctypes.Structure):
 _BUFFER = [ctypes.c_void_p, ctypes.c_size_t]
 # By the functions' names: what they answer, and what they take.
 _FUNCTIONS: dict[str, tuple[typing.Any, list[typing.Any]]] = {
-    "sotrugla_run": (_Outcome, _BUFFER + [ctypes.c_size_t] * 6 + _BUFFER * 3),
+    "sotrugla_run": (Outcome, _BUFFER + [ctypes.c_size_t] * 6 + _BUFFER * 3),
+    "sotrugla_run_tray": (Outcome, [ctypes.c_size_t] + _BUFFER * 6),
     "sotrugla_scratch_needed": (ctypes.c_size_t, [ctypes.c_size_t] * 2),
-    "sotrugla_read_ticket": (_Outcome, _BUFFER + [ctypes.POINTER(ctypes.c_int64), ctypes.c_size_t]),
+    "sotrugla_read_ticket": (Outcome, _BUFFER + [ctypes.POINTER(ctypes.c_int64), ctypes.c_size_t]),
     "sotrugla_is_hidden": (ctypes.c_uint64, _BUFFER + [ctypes.c_size_t] * 2),
     "sotrugla_read_pgm": (_Pgm, _BUFFER),
     "sotrugla_run_pgm": (_Written, _BUFFER * 4),

@@ -24,6 +24,7 @@ SENTENCES = {
     15: "the file is no raw grey Netpbm file (P5), its header is damaged, or its maximum is 0",
     16: "the file's maximum is above 255",
     17: "a pixel of the file is above its maximum, or the file has too few pixels",
+    18: "the list has more than 256 jobs",
     100: "the buffer of numbers is too short",
 }
 
@@ -60,9 +61,10 @@ class Placements(typing.NamedTuple):
 
 
 class Refused(Exception):
-    """A refused job: its number, its place and a sentence that says what was wrong. The place is the ticket's byte
-    where the field at fault starts (1 to 9), the number of the box from 0 (14), the file's first byte at fault, or its
-    length where it ends too soon (15 to 17), the numbers needed (100), else 0. Nothing was written.
+    """A refused job, or a refused list (18): its number, its place and a sentence that says what was wrong. The place
+    is the ticket's byte where the field at fault starts (1 to 9), the number of the box from 0 (14), the file's first
+    byte at fault, or its length where it ends too soon (15 to 17), the numbers needed (100), else 0. Nothing was
+    written.
 
     >>> print(Refused(7, 15))
     refused 7 at 15: the segment length is 0 or above 8192 (the field at byte 15 of the ticket)
@@ -92,14 +94,22 @@ HEAD = 15
 
 def judged(answer: typing.Any, head: bytes = b"", placements: typing.Optional[Placements] = None) -> typing.Any:
     """The library's answer, if it is no refusal. The head is the ticket's; a job on a file has no placements."""
+    found = refused(answer, head, placements)
+    if found is not None:
+        raise found
+    return answer
+
+
+def refused(answer: typing.Any, head: bytes, placements: typing.Optional[Placements]) -> typing.Optional[Refused]:
+    """What judged raises, if anything."""
     if not answer.refusal:
-        return answer
+        return None
     sentence = SENTENCES[answer.refusal]
     if answer.refusal == 6:
         sentence = _vector_sentence(*struct.unpack(">hh", head[-4:]))
     if answer.refusal == 10:
         sentence = _placement_sentence(placements) if placements else FILE_SENTENCE
-    raise Refused(answer.refusal, answer.place, sentence)
+    return Refused(answer.refusal, answer.place, sentence)
 
 
 def _vector_sentence(dx: int, dy: int) -> str:

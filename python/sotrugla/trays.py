@@ -64,20 +64,41 @@ def run_lent(
     scratch: typing.Optional[WriteableBuffer] = None,
 ) -> int:
     """As run, where the source is lent already."""
-    if not (isinstance(page, Page) and isinstance(spot, Spot)):
-        raise TypeError("the page is a Page, and its place in the output a Spot")
-    page, spot = Page(*_sizes(page, "the page")), Spot(*_sizes(spot, "the spot"))
-    numbers = (page.width, page.height, page.offset, page.stride, spot.offset, spot.stride)
+    places = Places.of(page, spot)
     if scratch is None:
-        scratch = bytearray(scratch_needed(page.width, page.height))
+        scratch = bytearray(scratch_needed(places.width, places.height))
     with contextlib.ExitStack() as stack:
         order = stack.enter_context(lent(bytes_of(ticket), "the ticket"))
         to_output = stack.enter_context(lent_to_write(output, "the output"))
         to_scratch = stack.enter_context(lent_to_write(scratch, "the scratch"))
         see_apart([order, source], [to_output, to_scratch])
-        outcome = answer("sotrugla_run", *order, *numbers, *source, *to_output, *to_scratch)
+        outcome = answer("sotrugla_run", *order, *places, *source, *to_output, *to_scratch)
         head = order.first(HEAD)
-    return judged(outcome, head, Placements(page.width, page.height, page.stride, spot.stride)).work
+    return judged(outcome, head, places.judged()).work
+
+
+class Places(typing.NamedTuple):
+    """The six numbers of a job's two pages, as the library takes them."""
+
+    width: int
+    height: int
+    source_offset: int
+    source_stride: int
+    output_offset: int
+    output_stride: int
+
+    @classmethod
+    def of(cls, page: Page, spot: Spot, job: str = "") -> Places:
+        """The job is named to who hands in what is no such number."""
+        if not (isinstance(page, Page) and isinstance(spot, Spot)):
+            raise TypeError(f"{job}the page is a Page, and its place in the output a Spot")
+        source_offset, width, height, source_stride = _sizes(page, f"{job}the page")
+        output_offset, output_stride = _sizes(spot, f"{job}the spot")
+        return cls(width, height, source_offset, source_stride, output_offset, output_stride)
+
+    def judged(self) -> Placements:
+        """The numbers that refusal 10 is about."""
+        return Placements(self.width, self.height, self.source_stride, self.output_stride)
 
 
 def _sizes(place: typing.Union[Page, Spot], name: str) -> list[int]:

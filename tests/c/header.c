@@ -2,27 +2,13 @@
  * reader, what has no place is not put, and each refusal that the library answers gets the sentence that says
  * which. Prints one line; the first wrong thing is told instead, and the exit status is then 1. */
 #include <stdio.h>
-#include <stdlib.h>
 #include <string.h>
 
+#include "see.h"
 #include "sotrugla.h"
 
 /* ROOM has a place for a 65th box too: it is not for want of room that a ticket is not put there. */
 enum { UNWRITTEN = 0xA5, ROOM = 1000 };
-
-static int checks;
-
-/* Not assert: that says nothing where NDEBUG is defined. */
-#define SEE(right) see((right) ? 1 : 0, #right, __LINE__)
-
-static void see(int right, const char *what, int line)
-{
-    checks++;
-    if (!right) {
-        printf("header.c, line %d: not so: %s\n", line, what);
-        exit(1);
-    }
-}
 
 static struct sotrugla_ticket opening(void)
 {
@@ -146,11 +132,6 @@ static void see_short_buffers_and_counts(void)
     }
 }
 
-static int same(const char *found, const char *wanted)
-{
-    return strcmp(found, wanted) == 0;
-}
-
 /* A vector that is refused, through each of the three calls. */
 static void see_vector(int line, int dx, int dy, const char *sentence)
 {
@@ -245,7 +226,8 @@ static void see_other_sentences(void)
     }
     SEE(same(sotrugla_sentence(SOTRUGLA_BAD_VECTOR), "the vector is not allowed"));
     SEE(same(sotrugla_sentence(SOTRUGLA_NUMBERS_TOO_FEW), "the buffer of numbers is too short"));
-    SEE(same(sotrugla_sentence(18), "unknown refusal"));
+    SEE(same(sotrugla_sentence(SOTRUGLA_TOO_MANY_JOBS), "the list has more than 256 jobs"));
+    SEE(same(sotrugla_sentence(19), "unknown refusal"));
 }
 
 static void see_version(void)

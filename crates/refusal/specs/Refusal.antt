@@ -1,8 +1,9 @@
--- Document 01, 'Refusals and what they return': the column 'No.'; document 02: the refusals that its wishes add.
+-- Document 01, 'Refusals and what they return': the column 'No.'; document 02: the refusals that its wishes add. One
+-- more is ours, 100: the documents' refusals are 1 to 25.
 -- Assumes nothing.
 use Prim.Native.Nat.{ℕ}
 use Rattle.refusal.specs.declared.Later as later
-use Rattle.refusal.specs.declared.Later.the-variants.{BadHeader, BadMaximum, BadPixel}
+use Rattle.refusal.specs.declared.Later.the-variants.{BadHeader, BadMaximum, BadPixel, TooManyJobs, NumbersTooFew}
 use Rattle.refusal.specs.declared.Refusal.{Refusal}
 use Rattle.refusal.specs.declared.Refusal.the-variants.{TicketEnds, WrongTag, WrongLength, Unknown}
 use Rattle.refusal.specs.declared.Refusal.the-variants.{TooManyBoxes, BadVector, BadLength, BadOrigin, BadPhase}
@@ -10,11 +11,13 @@ use Rattle.refusal.specs.declared.Refusal.the-variants.{BadSides, Source
 use Rattle.refusal.specs.declared.Refusal.the-variants.{ScratchTooShort, BadBox, Later}
 
 -- wish 1: "Refusals: 15, bad header or maximum 0 (sides are 10's); 16, maximum above 255; 17, pixel above the maximum
--- or too few pixels"
+-- or too few pixels"; wish 3: "Refusals: 18, more than 256 jobs"
 abbrev pub laterNumber : later.Later → ℕ
 laterNumber BadHeader = 15
 laterNumber BadMaximum = 16
 laterNumber BadPixel = 17
+laterNumber TooManyJobs = 18
+laterNumber NumbersTooFew = 100
 
 abbrev pub refusalNumber : Refusal → ℕ
 refusalNumber TicketEnds = 1

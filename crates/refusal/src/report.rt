@@ -1,4 +1,4 @@
-// An answer as three numbers: the documents' number of a refusal (0 for what is done), its place, and the work.
+// An answer as three numbers: a refusal's own number (0 for what is done), its place, and the work.
 ghost use mathlib.Core.Path.{_≡_};
 ghost use Rattle.refusal.specs.Refusal.{laterNumber, refusalNumber};
 ghost use Rattle.refusal.specs.Answer.{numberOf, placeOf, workIn, isDone};
@@ -6,7 +6,7 @@ use super::Answer;
 use super::Later;
 use super::Refusal;
 
-// The number that document 02 gives a refusal.
+// The number that document 02 gives a refusal. 1 to 25 are the documents'; ours is 100.
 fn later_number(r: Later) -> usize
     ensures { λ n. ⌜ n ≡ laterNumber r ⌝ }
 {
@@ -14,6 +14,8 @@ fn later_number(r: Later) -> usize
         Later::BadHeader => 15,
         Later::BadMaximum => 16,
         Later::BadPixel => 17,
+        Later::TooManyJobs => 18,
+        Later::NumbersTooFew => 100,
     }
 }
 

@@ -16,6 +16,9 @@ use Rattle.ticket.specs.declared.HiddenBox.{HiddenBox}
 use Rattle.ticket.specs.declared.Reading.{Reading}
 use Rattle.ticket.specs.declared.Ticket.{Ticket}
 use Rattle.refusal.specs.Answer.{isDone}
+use Rattle.refusal.specs.declared.Answer.the-variants.{Refused}
+use Rattle.refusal.specs.declared.Later.the-variants.{NumbersTooFew}
+use Rattle.refusal.specs.declared.Refusal.the-variants.{Later}
 use Rattle.sotrugla.specs.Shown.{wordOf, fieldNumbers, boxNumbers, numbersOf, numbersNeeded, readOutcome, numbersAfter, Showable}
 use Rattle.sotrugla.specs.Outcome.{outcomeOf}
 use Rattle.sotrugla.specs.declared.Outcome.{Outcome}
@@ -85,11 +88,11 @@ read-showable s r bytes e = rw e (showable s bytes)
 
 -- what is answered, and what stands in the buffer
 module _ (s numbers : List ℕ) where
-  pub too-short : length numbers < numbersNeeded
-      → (_≡_ {A = Outcome} (record { refusal = 100; place = numbersNeeded; work = 0 }) (readOutcome s (length numbers)))
-      × (numbers ≡ numbersAfter s numbers)
+  pub too-short : (o : Outcome) → length numbers < numbersNeeded
+      → o ≡ outcomeOf (Refused (Later NumbersTooFew) numbersNeeded)
+      → (o ≡ readOutcome s (length numbers)) × (numbers ≡ numbersAfter s numbers)
   unfolding readOutcome numbersAfter
-  too-short h = rw (lt-ltb (length numbers) numbersNeeded h) (refl, refl)
+  too-short o h told = rw (lt-ltb (length numbers) numbersNeeded h) (told, refl)
 
   pub long-enough : (r : Reading) (o : Outcome) (after : List ℕ) → numbersNeeded ≤ length numbers → r ≡ reading s
       → o ≡ outcomeOf (r .answer)

@@ -10,6 +10,9 @@ use mathlib.Core.List.{List, [], _∷_, _++_}
 use lib.ListN.{length, drop}
 use lib.Dec.{ltb}
 use lib.IntN.{ℤ, pos, negsuc, natAbs}
+use Rattle.refusal.specs.declared.Answer.the-variants.{Refused}
+use Rattle.refusal.specs.declared.Later.the-variants.{NumbersTooFew}
+use Rattle.refusal.specs.declared.Refusal.the-variants.{Later}
 use Rattle.ticket.specs.Reading.{reading}
 use Rattle.ticket.specs.declared.HiddenBox.{HiddenBox}
 use Rattle.ticket.specs.declared.Ticket.{Ticket}
@@ -38,11 +41,10 @@ numbersOf t = fieldNumbers t (boxNumbers (t .boxes))
 abbrev pub numbersNeeded : ℕ
 numbersNeeded = 264
 
--- 100, and how many numbers are needed, where the buffer of n numbers is too short for them. 100 is ours: the
--- documents' refusals are 1 to 25.
+-- refused for its length, with how many numbers are needed, where the buffer of n numbers is too short for them
 unfoldable pub readOutcome : List ℕ → ℕ → Outcome
 readOutcome ticket n =
-    cond (ltb n numbersNeeded) (record { refusal = 100; place = numbersNeeded; work = 0 }) (outcomeOf (reading ticket .answer))
+    cond (ltb n numbersNeeded) (outcomeOf (Refused (Later NumbersTooFew) numbersNeeded)) (outcomeOf (reading ticket .answer))
 
 -- the buffer: too short a one is not written, and of a longer one the numbers past the 264th keep their values
 unfoldable pub numbersAfter : List ℕ → List ℕ → List ℕ

@@ -2,6 +2,7 @@
 // then a length; sizes are 64-bit numbers. No function here has a condition on its callers but that of every slice:
 // its bytes are there, and no two of the buffers overlap.
 pub mod files; // files.rt: pages that arrive as P5 files
+pub mod lists; // lists.rt: a whole tray in one call
 mod shown; // shown.rt: a ticket alone, as a row of numbers
 
 ghost use mathlib.Core.Path.{_≡_};
@@ -14,10 +15,12 @@ ghost use Rattle.sotrugla.specs.Version.{version};
 use placement::Placements;
 use placement::Spot;
 use refusal::Answer;
+use refusal::Later;
+use refusal::Refusal;
 use refusal::report;
 
-// An answer: refusal is 0 for a finished page or a ticket that was read, else the number of the refusal. 1 to 25
-// are the documents' (1 to 17 so far); 100 is ours and means a buffer of numbers that is too short.
+// An answer: refusal is 0 for a finished page, a ticket that was read or a list that was run, else the number of the
+// refusal. 1 to 25 are the documents' (1 to 18 so far); 100 is ours and means a buffer of numbers that is too short.
 #[repr(C)]
 pub struct Outcome {
     pub refusal: u64,
@@ -115,10 +118,6 @@ pub extern "C" fn sotrugla_scratch_needed(width: usize, height: usize) -> usize
     placement::place::scratch_needed(JOB_PAGES, width, height)
 }
 
-// What every function answers that is handed a buffer of numbers too short: its place is the numbers needed, and
-// nothing is written. The documents' own refusals are 1 to 25.
-const NUMBERS_TOO_FEW: u64 = 100;
-
 // Reads a ticket alone into a buffer of 264 numbers, which hosts take for signed ones: a negative one stands there
 // as two's complement. A refused ticket shows zeros. A buffer too short is answered 100, its place the numbers
 // needed, and is not written.
@@ -128,11 +127,7 @@ pub extern "C" fn sotrugla_read_ticket(ticket: &[u8], numbers: &mut [u64]) -> Ou
     ensures written { λ _. ⌜ now (numbers .exit) ≡ numbersAfter (now (ticket .entry)) (now (numbers .entry)) ⌝ }
 {
     if numbers.len() < shown::NUMBERS {
-        return Outcome {
-            refusal: NUMBERS_TOO_FEW,
-            place: shown::NUMBERS as u64,
-            work: 0,
-        };
+        return outcome_of(Answer::Refused(Refusal::Later(Later::NumbersTooFew), shown::NUMBERS));
     }
     let reading = ticket::read(ticket);
     let answer = reading.answer;
@@ -152,8 +147,8 @@ pub extern "C" fn sotrugla_is_hidden(ticket: &[u8], column: usize, row: usize) -
     if hidden { 1 } else { 0 }
 }
 
-// 0.4.0: a million for the major number, a thousand for the minor one, one for the patch.
-const VERSION: u64 = 4000;
+// 0.5.0: a million for the major number, a thousand for the minor one, one for the patch.
+const VERSION: u64 = 5000;
 
 // The version of the library that runs, which need not be that of the header that a host was built with.
 #[no_mangle]

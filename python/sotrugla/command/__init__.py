@@ -12,8 +12,8 @@ from typing import Iterator, Optional, Sequence
 
 import sotrugla
 
-from . import arguments, batch, files, order, outputs, show
-from .faults import Fault, Misused, reason
+from . import arguments, batch, files, order, outputs, show, tray
+from .faults import Fault, Misused
 
 FINISHED, NOT_FINISHED, WRONG_USE, INTERRUPTED, TERMINATED = 0, 1, 2, 130, 143
 
@@ -52,7 +52,7 @@ def _terminated_as_interrupted() -> Iterator[None]:
 def _run(words: Sequence[str]) -> int:
     try:
         options = arguments.parse(words)
-        return _show(options) if options.word == "show" else _clean(options)
+        return _WORDS.get(options.word, _clean)(options)
     except SystemExit as end:  # argparse has said its help, its version or a usage error; or it is terminated.
         return int(end.code or FINISHED)
     except Fault as fault:
@@ -61,8 +61,16 @@ def _run(words: Sequence[str]) -> int:
 
 
 def _show(options: argparse.Namespace) -> int:
-    _write(files.STANDARD, show.in_words(order.read_ticket(options.ticket)).encode())
+    files.put(files.STANDARD, show.in_words(order.read_ticket(options.ticket)).encode())
     return FINISHED
+
+
+def _tray(options: argparse.Namespace) -> int:
+    try:
+        finished = tray.clean(options.list, options.tray, options.out, options.json)
+    except Misused as misused:
+        options.error(str(misused))
+    return FINISHED if finished else NOT_FINISHED
 
 
 def _clean(options: argparse.Namespace) -> int:
@@ -81,14 +89,9 @@ def _clean(options: argparse.Namespace) -> int:
         print(options.along.note, file=sys.stderr)
     outputs.make_folder(options.out, routes)
     for name in copies:
-        _write(name, ticket)
+        files.put(name, ticket)
     return NOT_FINISHED if batch.clean_all(routes, ticket, options.jobs) else FINISHED
 
 
-def _write(name: str, content: bytes) -> None:
-    try:
-        files.write(name, content)
-    except BrokenPipeError:
-        raise
-    except OSError as error:
-        raise Fault(name, f"cannot be written: {reason(error)}") from error
+# The words that do not clean pages by files.
+_WORDS = {"show": _show, "tray": _tray}

@@ -21,10 +21,24 @@ examples:
   sotrugla {0} *.pgm -o clean/ --along 31deg --length 51 --hide 60,30,200,40
 """
 
-_FOOT = """
+_STATUS = "Exit status: 0 all pages are finished, 1 some are not, 2 a wrong use.\n"
+
+_FOOT = f"""
 Pages are P5 files; with Pillow also PNG, TIFF and BMP, and JPEG to be read.
-Exit status: 0 all pages are finished, 1 some are not, 2 a wrong use.
-"""
+{_STATUS}"""
+
+_TRAY_USAGE = "sotrugla tray LIST TRAY -o OUT"
+
+_TRAY_FOOT = f"""
+A job has the keys or columns page (its name for you), ticket (a file's name, as
+seen from the list's folder), width, height, source_offset, source_stride,
+output_offset and output_stride. LIST is a JSON array of jobs, or CSV.
+
+examples:
+  sotrugla tray night.csv scans.tray -o clean.tray
+  sotrugla tray - scans.tray -o clean.tray --json <night.json
+
+{_STATUS}"""
 
 # The options whose values are numbers.
 _NUMBERS = ("--along", "--length", "--origin", "--phase", "--hide", "--jobs")
@@ -52,7 +66,7 @@ def _joined(words: Sequence[str]) -> List[str]:
 def _parser() -> argparse.ArgumentParser:
     parser = argparse.ArgumentParser(
         prog="sotrugla",
-        usage=_USAGE.format("erode|dilate|open|close") + "\n       sotrugla show TICKET",
+        usage=_USAGE.format("erode|dilate|open|close") + f"\n       {_TRAY_USAGE}, or sotrugla show TICKET",
         description="Cleans grey pages along lines.",
         epilog=_EXAMPLES.format("close") + _FOOT,
         **_SHARED,
@@ -61,6 +75,7 @@ def _parser() -> argparse.ArgumentParser:
     words = parser.add_subparsers(title=title, prog="sotrugla", dest="word", metavar="WORD", required=True)
     for name, word in WORDS.items():
         _add_cleaning(words, name, word)
+    _add_tray(words)
     _add_show(words)
     options = parser.add_argument_group("options")
     _add_help(options)
@@ -93,6 +108,23 @@ def _add_cleaning(words: Any, name: str, word: Word) -> None:
     add("--ticket", metavar="FILE", help="a ready ticket, in place of the six above")
     add("--write-ticket", metavar="FILE", help="keep the ticket in this file")
     add("--jobs", metavar="N", type=_jobs, default=_processors(), help="pages at a time (default: the processors)")
+    _add_help(options)
+
+
+def _add_tray(words: Any) -> None:
+    told = "run a list of up to 256 jobs on one tray, and print a table"
+    description = f"{told.capitalize()} of their answers."
+    usage = f"{_TRAY_USAGE} [--json]"
+    parser = words.add_parser(
+        "tray", usage=usage, help=told, description=description, epilog=_TRAY_FOOT, **_SHARED
+    )
+    parser.set_defaults(error=parser.error)
+    options = parser.add_argument_group("list, trays and options")
+    add = options.add_argument
+    add("list", metavar="LIST", help="the list's file; - is standard input")
+    add("tray", metavar="TRAY", help="the source tray's file")
+    add("-o", metavar="OUT", dest="out", required=True, help="the output tray's file: written in place, or made")
+    add("--json", action="store_true", help="print JSON in place of the table")
     _add_help(options)
 
 

@@ -11,10 +11,10 @@ class Fault(Exception):
     """What is wrong with a file. Its words are the line that the operator reads."""
 
     def __init__(self, name: str, words: str) -> None:
-        super().__init__(f"{_shown(name)}: {words}")
+        super().__init__(f"{shown(name)}: {words}")
 
 
-def _shown(name: str) -> str:
+def shown(name: str) -> str:
     """A name in one line, which tells a terminal nothing."""
     return "".join(letter if letter.isprintable() else ascii(letter)[1:-1] for letter in name)
 

@@ -7,6 +7,7 @@ import errno
 import os
 import re
 import secrets
+from typing import BinaryIO, Iterator
 
 from .faults import Fault, reason
 
@@ -24,10 +25,15 @@ _KEPT_OF_A_NAME = 40
 
 def read(name: str) -> bytes:
     try:
-        with open(0 if name == STANDARD else name, "rb", closefd=name != STANDARD) as file:
-            return file.read()
+        return content(name)
     except OSError as error:
         raise Fault(name, f"cannot be read: {reason(error)}") from error
+
+
+def content(name: str) -> bytes:
+    """As read, but raises OSError."""
+    with open(0 if name == STANDARD else name, "rb", closefd=name != STANDARD) as file:
+        return file.read()
 
 
 def write(name: str, content: bytes, like: str = STANDARD) -> None:
@@ -41,7 +47,18 @@ def write(name: str, content: bytes, like: str = STANDARD) -> None:
         with open(name, "ab") as file:
             file.write(content)
     else:
-        _replace(os.path.abspath(name), content, like)
+        with replaced(name, like) as file:
+            file.write(content)
+
+
+def put(name: str, content: bytes) -> None:
+    """As write, but raises Fault, unless nobody reads standard output any more."""
+    try:
+        write(name, content)
+    except BrokenPipeError:
+        raise
+    except OSError as error:
+        raise Fault(name, f"cannot be written: {reason(error)}") from error
 
 
 def _takes(name: str) -> bool:
@@ -50,20 +67,24 @@ def _takes(name: str) -> bool:
     return apart or _HANDED_ON.fullmatch(os.path.abspath(name)) is not None
 
 
-def _replace(path: str, content: bytes, like: str) -> None:
-    """Writes to a hidden name in the same folder, and renames when all of it is on the disk."""
+@contextlib.contextmanager
+def replaced(name: str, like: str) -> Iterator[BinaryIO]:
+    """A file to be written, under a hidden name in the same folder, which is renamed when all of it is on the disk. An
+    error and an interrupt leave nothing of it."""
+    path = os.path.abspath(name)
     folder, name = os.path.split(path)
     part = os.path.join(folder, f".{name[:_KEPT_OF_A_NAME]}.{secrets.token_hex(4)}.part")
     there = os.path.isfile(path) and not os.path.islink(path)
     if there and not os.access(path, os.W_OK):
         raise PermissionError(errno.EACCES, os.strerror(errno.EACCES))
     mode = _NEW if like == STANDARD else os.stat(like).st_mode & _NEW
-    descriptor = os.open(part, os.O_WRONLY | os.O_CREAT | os.O_EXCL, mode)
+    # Who maps a file to write it must be let to read it.
+    descriptor = os.open(part, os.O_RDWR | os.O_CREAT | os.O_EXCL, mode)
     try:
         with open(descriptor, "wb") as file:
             if there:
                 os.fchmod(descriptor, os.stat(path).st_mode & 0o777)
-            file.write(content)
+            yield file
             file.flush()
             os.fsync(file.fileno())
         os.replace(part, path)

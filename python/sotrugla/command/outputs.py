@@ -19,14 +19,14 @@ class Route(NamedTuple):
 
 def routes(pages: Sequence[str], out: str) -> List[Route]:
     """One page goes to the file OUT. Several, or one with a folder for OUT, keep their names in that folder."""
-    if len(pages) == 1 and not _is_folder(out):
+    if len(pages) == 1 and not is_folder(out):
         _see_ending(out)
         return [Route(pages[0], out)]
     if out == STANDARD:
         raise Misused("several pages need a folder, not standard output")
     if os.path.exists(out) and not os.path.isdir(out):
         raise Misused(f"several pages need a folder, and {out} is none")
-    if images.ending(out) in images.PAGES and not _is_folder(out):
+    if images.ending(out) in images.PAGES and not is_folder(out):
         raise Misused(f"several pages need a folder; for one of the name {out} type {out}/")
     if STANDARD in pages:
         raise Misused("standard input has no name to keep in a folder")
@@ -64,7 +64,7 @@ def make_folder(out: str, wanted: Sequence[Route]) -> None:
         raise Fault(out, f"cannot be made: {reason(error)}") from error
 
 
-def _is_folder(out: str) -> bool:
+def is_folder(out: str) -> bool:
     return out.endswith("/") or os.path.isdir(out)
 
 

@@ -12,7 +12,8 @@ from .support import CommandCase
 
 class Help(CommandCase):
     def test_fits_a_screen_with_examples(self):
-        for words in (["--help"], ["erode", "-h"], ["dilate", "--help"], ["open", "--help"], ["close", "--help"]):
+        for word in ("", "erode", "dilate", "open", "close", "tray"):
+            words = [word, "--help"] if word else ["-h"]
             status, written, said = self.run_apart(*words)
             lines = written.decode().splitlines()
             self.assertEqual((status, said), (0, ""))

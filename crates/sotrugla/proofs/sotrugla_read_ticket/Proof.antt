@@ -8,8 +8,8 @@ use Rattle.sotrugla.proofs.sotrugla_read_ticket.Tie as tie
 
 returns : tie.Need-returns
 returns c =
-    let start = c .before .before .before in
-    too-short (now (start .args .ticket)) (now (start .args .numbers)) (omega arith)
+    let start = c .before .before .before .before in
+    too-short (now (start .args .ticket)) (now (start .args .numbers)) _ (omega arith) (c .outcome-of .ensures)
 
 put-ticket-requires : tie.Need-put-ticket-requires
 put-ticket-requires c κs =
@@ -22,12 +22,13 @@ returns-2 : tie.Need-returns-2
 returns-2 c =
     let read = c .before .before .before .before .before in
     let start = read .before .before .before .before in
-    long-enough (now (start .args .ticket)) (now (start .args .numbers)) (read .read .result) _ _ (omega arith) (read .read .ensures) (c .outcome-of .ensures) (c .before .before .before .put-ticket .ensures)
+    long-enough (now (start .args .ticket)) (now (start .args .numbers)) (read .read .result) _ _ (omega arith) (read .read .ensures) (c .outcome-of2 .ensures) (c .before .before .before .put-ticket .ensures)
 
 pub sotrugla-read-ticket-spec : {M : Type 1} → statement M
 sotrugla-read-ticket-spec =
     tie.close
     (tie.spec
+    (λ c κs. search needs)
     returns
     (λ c κs. search needs)
     put-ticket-requires

@@ -1,0 +1,4 @@
+pub mod Within
+pub mod Tickets
+pub mod Stores
+pub mod Running

@@ -1,0 +1,71 @@
+-- The answers put into their buffer, store by store. Assumes nothing.
+use mathlib.Core.Path.{_≡_, refl, sym, ap, ap₂, _∙_}
+use mathlib.Core.List.{List, [], _∷_, _++_, append-assoc}
+use Prim.Native.Nat.{ℕ, zero, suc, _+_, _-_, _*_, _≤_, _<_}
+use native.Mathlib.Nat.{zero-add}
+use native.Mathlib.Numerals.{add-one}
+use native.Mathlib.Omega.{arith}
+use lib.ListN.{length, set, drop, replicate, length-replicate, replicate-append-replicate}
+use lib.Seq.{sets, sets-eq, length-sets, drop-at}
+use Rattle.refusal.specs.Answer.{numberOf, placeOf, workIn}
+use Rattle.refusal.specs.declared.Answer.{Answer}
+use Rattle.tray.specs.Written.{cleared}
+use Rattle.batch.specs.Batch.{Lent, answerAt}
+use Rattle.batch.specs.Call.{answersNeeded, told, toldFrom, answersOf}
+
+three-stores : (l : List ℕ) (at a b c : ℕ) → set (set (set l at a) (at + 1) b) (at + 2) c ≡ sets l at (a ∷ b ∷ c ∷ [])
+three-stores l at a b c =
+    let one : at + 1 ≡ suc at = omega arith in
+    let two : at + 2 ≡ suc (suc at) = omega arith in
+    rw (one, two) refl
+
+pub answer-put : (l : List ℕ) (k : ℕ) (a : Answer) (number place work : ℕ) → number ≡ numberOf a → place ≡ placeOf a
+    → work ≡ workIn a
+    → set (set (set l (3 * k) number) (3 * k + 1) place) (3 * k + 2) work ≡ sets l (3 * k) (told a [])
+answer-put l k a number place work is-number is-place is-work =
+    three-stores l (3 * k) number place work
+    ∙ ap (λ (n : ℕ). sets l (3 * k) (n ∷ place ∷ work ∷ [])) is-number
+    ∙ ap₂ (λ (p w : ℕ). sets l (3 * k) (numberOf a ∷ p ∷ w ∷ [])) is-place is-work
+
+-- what is stored and what is still to be stored make all
+pub told-more : (l : Lent) (k n : ℕ) (a : Answer) (before after all : List ℕ) → a ≡ answerAt l k
+    → after ≡ sets before (3 * k) (told a [])
+    → sets before (3 * k) (toldFrom l k (suc n)) ≡ all
+    → (length after ≡ length before) × (sets after (3 * (k + 1)) (toldFrom l (k + 1) n) ≡ all)
+unfolding toldFrom
+told-more l k n a before after all is put rest =
+    let next : 3 * (k + 1) ≡ suc (suc (suc (3 * k))) = omega arith in (
+      ap length put ∙ length-sets before (3 * k) (told a []),
+      rw (put, next, add-one k, is) rest,
+    )
+
+pub told-count : (l : Lent) (k n : ℕ) → length (toldFrom l k n) ≡ 3 * n
+unfolding toldFrom
+told-count l k zero = refl
+told-count l k (suc n) = let more = told-count l (suc k) n in omega arith
+
+-- cleared numbers from the n-th on
+drop-cleared : (n m : ℕ) (rest : List ℕ) → n ≤ m → drop n (replicate m 0 ++ rest) ≡ replicate (m - n) 0 ++ rest
+drop-cleared n m rest few =
+    let parts : n + (m - n) ≡ m = omega arith in
+    let first : List ℕ = replicate n 0 in
+    let last : List ℕ = replicate (m - n) 0 in
+    let none : ℕ = 0 in
+    let whole : replicate m none ≡ first ++ last =
+    sym (replicate-append-replicate n (m - n) none ∙ ap (λ (k : ℕ). replicate k none) parts) in
+    ap (λ (zeros : List ℕ). drop n (zeros ++ rest)) whole
+    ∙ ap (drop n) (append-assoc first last rest)
+    ∙ drop-at first (last ++ rest) n (length-replicate n none)
+
+-- all answers, stored over a cleared buffer
+pub all-told : (l : Lent) (count : ℕ) (answers : List ℕ) → count ≤ 256 → answersNeeded ≤ length answers
+    → sets (cleared answersNeeded answers) 0 (toldFrom l 0 count) ≡ answersOf l count ++ drop answersNeeded answers
+unfolding cleared answersOf
+all-told l count answers few room =
+    let size = told-count l 0 count in
+    let zeros : List ℕ = replicate answersNeeded 0 in
+    let rest : List ℕ = drop answersNeeded answers in
+    sets-eq (toldFrom l 0 count) (zeros ++ rest) 0 (omega arith)
+    ∙ ap (λ (n : ℕ). toldFrom l 0 count ++ drop n (zeros ++ rest)) (zero-add (length (toldFrom l 0 count)) ∙ size)
+    ∙ ap (λ (tail : List ℕ). toldFrom l 0 count ++ tail) (drop-cleared (3 * count) answersNeeded rest (omega arith))
+    ∙ sym (append-assoc (toldFrom l 0 count) (replicate (answersNeeded - 3 * count) 0) rest)

@@ -1,0 +1,4 @@
+pub mod Listed
+pub mod Batch
+pub mod Call
+pub mod Promises
