@@ -5,6 +5,8 @@
  *   time         page, drawing, program, operation, dx, dy, L, boxes, pixels timed, seconds, calls
  *   document001  operation, degrees, pixels, seconds of ours, by pixel, by page
  *   reading      page, drawing, dx, dy, L, pixels, seconds of reading its P5 file, of an opening
+ *   tray         page, drawing, dx, dy, L, which jobs finish, jobs, pairs timed, seconds of a call for each job, of one
+ *                call for all, the latter as a multiple of the former
  * bench/report.py makes the table of it. With --quick a small part is measured. */
 #include <malloc.h>
 #include <stdio.h>
@@ -16,6 +18,7 @@
 #include "plan.h"
 #include "reading.h"
 #include "timing.h"
+#include "tray.h"
 
 enum { BOXES = 64 };
 
@@ -156,6 +159,7 @@ int main(int count, char **words)
     check(quick ? &QUICK_PLAN : &A4_PLAN);
     repeat_document001(quick ? 15 : 1, 3);
     measure_reading(quick ? &QUICK_PLAN : &A4_PLAN);
+    measure_tray(quick ? &QUICK_PLAN : &A4_PLAN);
     measure(quick ? &QUICK_PLAN : &A4_PLAN);
     if (!quick)
         measure(&LARGEST_PLAN);

@@ -33,6 +33,17 @@ class Reading(typing.NamedTuple):
     pixels: int
 
 
+class Tray(typing.NamedTuple):
+    """Seconds of a list by a call for each job and by one call for all, best of each; and what one call took as a
+    multiple of the other way, the median of so many pairs of runs right behind each other."""
+
+    jobs: int
+    pairs: int
+    each: float
+    once: float
+    ratio: float
+
+
 class Copy(typing.NamedTuple):
     """ns a pixel of a memcpy of the page, and of one through pages in turn."""
 
@@ -49,7 +60,7 @@ class Measured:
     def __init__(self, path):
         self.facts, self.versions, self.checked = {}, {}, []
         self.copies, self.times = {}, collections.defaultdict(dict)
-        self.document001, self.readings = collections.defaultdict(list), {}
+        self.document001, self.readings, self.trays = collections.defaultdict(list), {}, {}
         with open(path, encoding="utf-8") as lines:
             for line in lines:
                 self._take(*line.rstrip("\n").split("\t"))
@@ -68,6 +79,8 @@ class Measured:
             self.document001[words[0]].append([float(word) for word in words[3:6]])
         elif kind == "reading":
             self._take_reading(*words)
+        elif kind == "tray":
+            self._take_tray(*words)
         else:
             self.facts[kind] = words[0]
 
@@ -79,6 +92,10 @@ class Measured:
     def _take_reading(self, page, drawing, dx, dy, length, pixels, *seconds):
         case = Case(page, drawing, "opening", (int(dx), int(dy)), int(length))
         self.readings[case] = Reading(*(1e9 * float(word) / int(pixels) for word in seconds), int(pixels))
+
+    def _take_tray(self, page, drawing, dx, dy, length, finished, jobs, pairs, *figures):
+        case = Case(page, drawing, "opening", (int(dx), int(dy)), int(length))
+        self.trays[f"{case}, {finished}"] = Tray(int(jobs), int(pairs), *map(float, figures))
 
     def copy_of(self, case):
         return self.copies[case.page, case.drawing]

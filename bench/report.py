@@ -102,9 +102,22 @@ def readings(measured):
     yield ""
 
 
+def trays(measured):
+    yield "A list of 256 jobs in one call (sotrugla_run_tray), beside a call of sotrugla_run for each, in list order"
+    yield "The pages stand side by side in one tray. Both ways gave the same answers and output before they were timed."
+    yield "us a job: the best run of each way. one / each: the median of pairs of runs, one right behind the other,"
+    yield f"either way first in turn; the aim is at most {verdicts.ONE_TO_EACH}."
+    for case, tray in measured.trays.items():
+        times = f"each {1e6 * tray.each / tray.jobs:.3f} us a job, one {1e6 * tray.once / tray.jobs:.3f} us"
+        met = "met" if tray.ratio <= verdicts.ONE_TO_EACH else "MISSED"
+        yield f"{case}: {times}; one / each {tray.ratio:.3f} ({tray.pairs} pairs), {met}"
+    yield ""
+
+
 def main(measured_path, table_path, plot_path):
     measured = Measured(measured_path)
-    lines = [*head(measured), *table(measured), *document001(measured), *readings(measured), *verdicts.lines(measured)]
+    lines = [*head(measured), *table(measured), *document001(measured), *readings(measured), *trays(measured)]
+    lines += verdicts.lines(measured)
     text = "\n".join(lines) + "\n"
     with open(table_path, "w", encoding="utf-8") as out:
         out.write(text)

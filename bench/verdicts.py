@@ -2,6 +2,9 @@
 
 from measured import BOXED, OURS
 
+# One call for a list of jobs, at most so many times what a call for each takes.
+ONE_TO_EACH = 1.02
+
 
 def lines(measured):
     yield "What the benchmark must show"
@@ -10,6 +13,7 @@ def lines(measured):
     yield from _near_memcpy(measured)
     yield from _cheap_boxes(measured)
     yield from _cheap_reading(measured)
+    yield from _cheap_lists(measured)
 
 
 def _verdict(what, figures, limit, least=False, digits=2):
@@ -78,3 +82,10 @@ def _cheap_reading(measured):
     figures = {case: reading.ns / reading.opening_ns for case, reading in measured.readings.items()}
     yield "(e) P5 files"
     yield from _verdict("reading a file's header and pixels, under 0.1 of an opening of its page", figures, 0.1, digits=3)
+
+
+def _cheap_lists(measured):
+    figures = {case: tray.ratio for case, tray in measured.trays.items()}
+    yield "(f) lists of jobs"
+    what = f"256 jobs in one call, at most {ONE_TO_EACH} times 256 calls"
+    yield from _verdict(what, figures, ONE_TO_EACH, digits=3)

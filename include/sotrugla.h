@@ -317,7 +317,7 @@ struct sotrugla_listed_job {
 
 /* Runs a list of jobs on one source tray, one output tray and one scratch. Answers, trays and scratch are those
  * of a call of sotrugla_run for each job, in list order: a refused job is answered and the rest go on.
- *   count     the jobs of the list, up to SOTRUGLA_LIST_JOBS; none is a list, too
+ *   count     of the list's jobs: 0 to SOTRUGLA_LIST_JOBS
  *   jobs      read only; SOTRUGLA_JOB_NUMBERS numbers for each job, in the order of struct sotrugla_listed_job;
  *             numbers past those of the list are not looked at
  *   tickets   read only; a ticket that does not stand wholly in this buffer counts as empty: refused 1 at 0

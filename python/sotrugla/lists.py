@@ -65,8 +65,7 @@ def run_tray(
     if scratch is None:
         scratch = bytearray(max((scratch_needed(place.width, place.height) for place in places), default=0))
     with contextlib.ExitStack() as stack:
-        names = (f"job {number}: the ticket" for number in range(len(listed)))
-        orders = [stack.enter_context(lent(bytes_of(job.ticket), name)) for job, name in zip(listed, names)]
+        orders = [stack.enter_context(_order(job, number)) for number, job in enumerate(listed)]
         tray = stack.enter_context(lent(source, "the source"))
         to_output = stack.enter_context(lent_to_write(output, "the output"))
         to_scratch = stack.enter_context(lent_to_write(scratch, "the scratch"))
@@ -83,14 +82,16 @@ def _places(job: TrayJob, number: int) -> Places:
     return Places.of(job.page, job.spot, f"job {number}: ")
 
 
+def _order(job: TrayJob, number: int) -> typing.ContextManager[Lent]:
+    """The job's ticket, lent as run lends it: no buffer that is written may overlap it."""
+    return lent(bytes_of(job.ticket), f"job {number}: the ticket")
+
+
 def _answers(orders: list[Lent], places: list[Places], trays: list[int]) -> list[Outcome]:
     """The library's answer to each job. It takes the tickets laid end to end."""
     starts = itertools.accumulate((order.length for order in orders), initial=0)
-    numbers = [
-        number
-        for start, order, place in zip(starts, orders, places)
-        for number in (start, order.length, *place)
-    ]
+    listed = zip(starts, orders, places)
+    numbers = [number for start, order, place in listed for number in (start, order.length, *place)]
     tickets = b"".join(order.first(order.length) for order in orders)
     jobs, answers = (ctypes.c_uint64 * len(numbers))(*numbers), (Outcome * _JOBS)()
     given = (jobs, len(numbers), tickets, len(tickets), *trays, answers, _JOBS * _ANSWER_NUMBERS)

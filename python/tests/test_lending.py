@@ -64,10 +64,12 @@ class Kinds(unittest.TestCase):
     def run_in(self, makes):
         """Each kind as the ticket, the source, the output, the scratch and a file."""
         sources, outputs, scratches = makes(ROW), makes(bytes(3)), makes(bytes(15))
-        tickets, files = makes(ticket().encode()), makes(FILE)
+        tickets, files, listed = makes(ticket().encode()), makes(FILE), makes(bytes(3))
         for kind, source in sources.items():
             sotrugla.run(tickets[kind], ALONE, source, SPOT, outputs[kind], scratches[kind])
             self.assertEqual(memoryview(outputs[kind]).tobytes(), bytes([1, 1, 5]), kind)
+            sotrugla.run_tray([sotrugla.TrayJob(tickets[kind], ALONE, SPOT)], source, listed[kind], scratches[kind])
+            self.assertEqual(memoryview(listed[kind]).tobytes(), bytes([1, 1, 5]), kind)
             self.assertEqual(sotrugla.run_pgm(tickets[kind], files[kind]).file, FILE[:9] + bytes([1, 1, 5]), kind)
             self.assertEqual(sotrugla.read_pgm(files[kind]).start, 9, kind)
             self.assertEqual(sotrugla.read_ticket(tickets[kind]), ticket(), kind)

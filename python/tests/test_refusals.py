@@ -30,6 +30,7 @@ class Sentences(unittest.TestCase):
             (13, 0, "the scratch is too short"),
             (14, 3, "a hidden box has a zero side or passes the page's edge (box 3, counted from 0)"),
             (16, 7, "the file's maximum is above 255 (byte 7 of the file, counted from 0, or its end)"),
+            (18, 0, "the list has more than 256 jobs"),
             (100, 264, "the buffer of numbers is too short (it needs 264 numbers)"),
         ]
         for refusal, place, words in cases:

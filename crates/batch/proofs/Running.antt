@@ -5,7 +5,7 @@ use mathlib.Core.List.{List, [], _++_}
 use Prim.Native.Nat.{ℕ, zero, suc, _+_, _-_, _*_, _≤_, _<_}
 use native.Mathlib.Numerals.{add-one}
 use native.Mathlib.Omega.{arith}
-use borrow.Author.Tests.{lt-ltb, le-ltb, le-leb, lt-leb}
+use borrow.Author.Tests.{le-leb, lt-leb}
 use lib.ListN.{length, drop}
 use lib.Seq.{sets, length-sets}
 use Rattle.refusal.specs.Answer.{isDone, whenDone}
@@ -144,7 +144,7 @@ module _ (count : ℕ) (l : Lent) (answers : List ℕ) where
   answers-short short =
       called (Refused (Later NumbersTooFew) answersNeeded) answers
       (rw (lt-leb answersNeeded (length answers) short) refl)
-      (rw (lt-ltb (length answers) answersNeeded short) refl)
+      (rw (lt-leb answersNeeded (length answers) short) refl)
 
   module _ (room : answersNeeded ≤ length answers) where
     pub too-many : (stored : List ℕ) → mostJobs < count → stored ≡ cleared answersNeeded answers
@@ -153,7 +153,7 @@ module _ (count : ℕ) (l : Lent) (answers : List ℕ) where
     too-many stored many is =
         called (Refused (Later TooManyJobs) 0) stored
         (rw (le-leb answersNeeded (length answers) room, lt-leb count mostJobs many) refl)
-        (rw (le-ltb (length answers) answersNeeded room, lt-ltb mostJobs count many) is)
+        (rw (le-leb answersNeeded (length answers) room, lt-leb count mostJobs many) is)
 
     pub numbers-short : count ≤ mostJobs → length (l .jobs) < numbersOf count
         → Called count l answers (Refused (Later NumbersTooFew) (numbersOf count)) (l .output) (l .scratch) answers
@@ -161,7 +161,7 @@ module _ (count : ℕ) (l : Lent) (answers : List ℕ) where
     numbers-short few short =
         called (Refused (Later NumbersTooFew) (numbersOf count)) answers
         (rw (le-leb answersNeeded (length answers) room, le-leb count mostJobs few, lt-leb (numbersOf count) (length (l .jobs)) short) refl)
-        (rw (le-ltb (length answers) answersNeeded room, le-ltb mostJobs count few, lt-ltb (length (l .jobs)) (numbersOf count) short) refl)
+        (rw (le-leb answersNeeded (length answers) room, le-leb count mostJobs few, lt-leb (numbersOf count) (length (l .jobs)) short) refl)
 
     pub all-called : (zeros stored : List ℕ) (after : Trays) → count ≤ mostJobs → numbersOf count ≤ length (l .jobs)
         → zeros ≡ cleared answersNeeded answers → RanJobs count l zeros after stored
@@ -173,7 +173,7 @@ module _ (count : ℕ) (l : Lent) (answers : List ℕ) where
         let done =
         called (Done 0) stored
         (rw (le-leb answersNeeded (length answers) room, le-leb count mostJobs few, le-leb (numbersOf count) (length (l .jobs)) numbers) refl)
-        (rw (le-ltb (length answers) answersNeeded room, le-ltb mostJobs count few, le-ltb (length (l .jobs)) (numbersOf count) numbers) put) in (
+        (rw (le-leb answersNeeded (length answers) room, le-leb count mostJobs few, le-leb (numbersOf count) (length (l .jobs)) numbers) put) in (
           done .0,
           (
             ap (λ (t : Trays). t .output) (ran .left-is) ∙ done .1 .0,

@@ -1,7 +1,7 @@
 -- The answers put into their buffer, store by store. Assumes nothing.
 use mathlib.Core.Path.{_≡_, refl, sym, ap, ap₂, _∙_}
 use mathlib.Core.List.{List, [], _∷_, _++_, append-assoc}
-use Prim.Native.Nat.{ℕ, zero, suc, _+_, _-_, _*_, _≤_, _<_}
+use Prim.Native.Nat.{ℕ, suc, _+_, _-_, _*_, _≤_, _<_}
 use native.Mathlib.Nat.{zero-add}
 use native.Mathlib.Numerals.{add-one}
 use native.Mathlib.Omega.{arith}
@@ -12,6 +12,7 @@ use Rattle.refusal.specs.declared.Answer.{Answer}
 use Rattle.tray.specs.Written.{cleared}
 use Rattle.batch.specs.Batch.{Lent, answerAt}
 use Rattle.batch.specs.Call.{answersNeeded, told, toldFrom, answersOf}
+use Rattle.batch.specs.Laws.{told-count}
 
 three-stores : (l : List ℕ) (at a b c : ℕ) → set (set (set l at a) (at + 1) b) (at + 2) c ≡ sets l at (a ∷ b ∷ c ∷ [])
 three-stores l at a b c =
@@ -38,11 +39,6 @@ told-more l k n a before after all is put rest =
       ap length put ∙ length-sets before (3 * k) (told a []),
       rw (put, next, add-one k, is) rest,
     )
-
-pub told-count : (l : Lent) (k n : ℕ) → length (toldFrom l k n) ≡ 3 * n
-unfolding toldFrom
-told-count l k zero = refl
-told-count l k (suc n) = let more = told-count l (suc k) n in omega arith
 
 -- cleared numbers from the n-th on
 drop-cleared : (n m : ℕ) (rest : List ℕ) → n ≤ m → drop n (replicate m 0 ++ rest) ≡ replicate (m - n) 0 ++ rest

@@ -6,7 +6,7 @@
 use mathlib.Core.Bool.{cond}
 use mathlib.Core.List.{List, [], _∷_, _++_}
 use Prim.Native.Nat.{ℕ, zero, suc, _-_, _*_}
-use lib.Dec.{leb, ltb}
+use lib.Dec.{leb}
 use lib.ListN.{length, replicate, drop}
 use Rattle.refusal.specs.Answer.{numberOf, placeOf, workIn, whenDone}
 use Rattle.refusal.specs.Chain.{unless, _then_}
@@ -61,7 +61,8 @@ answersOf l count = toldFrom l 0 count ++ replicate (answersNeeded - 3 * count) 
 -- values
 unfoldable pub listAnswersAfter : ℕ → Lent → List ℕ → List ℕ
 listAnswersAfter count l answers =
-    cond (ltb (length answers) answersNeeded) answers
-    (cond (ltb mostJobs count) (cleared answersNeeded answers)
-    (cond (ltb (length (l .jobs)) (numbersOf count)) answers
-    (answersOf l count ++ drop answersNeeded answers)))
+    cond (leb answersNeeded (length answers))
+    (cond (leb count mostJobs)
+    (cond (leb (numbersOf count) (length (l .jobs))) (answersOf l count ++ drop answersNeeded answers) answers)
+    (cleared answersNeeded answers))
+    answers

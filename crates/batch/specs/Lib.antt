@@ -2,3 +2,4 @@ pub mod Listed
 pub mod Batch
 pub mod Call
 pub mod Promises
+pub mod Laws

@@ -7,6 +7,7 @@ use mathlib.Core.List.{List, []}
 use Prim.Native.Nat.{ℕ, _+_, _*_}
 use lib.Dec.{leb}
 use lib.ListN.{length, getD, take, drop}
+use Rattle.placement.specs.declared.Placements.{Placements}
 use Rattle.placement.specs.declared.Spot.{Spot}
 use Rattle.batch.specs.declared.Listed.{Listed}
 
@@ -29,7 +30,15 @@ listedAt jobs k =
           };
     }
 
+-- job k's placements
+abbrev pub placesIn : List ℕ → ℕ → Placements
+placesIn jobs k = listedAt jobs k .places
+
 -- "A ticket not wholly in the buffer counts as empty.", over whole numbers
 unfoldable pub ticketOf : List ℕ → Listed → List ℕ
 ticketOf tickets job =
     cond (leb (job .start + job .length) (length tickets)) (take (job .length) (drop (job .start) tickets)) []
+
+-- job k's ticket
+abbrev pub ticketIn : List ℕ → List ℕ → ℕ → List ℕ
+ticketIn jobs tickets k = ticketOf tickets (listedAt jobs k)

@@ -13,6 +13,8 @@ use Rattle.demands.proofs.Flip as flip
 use Rattle.demands.proofs.FlipJob as flips
 use Rattle.demands.proofs.Files as files
 use Rattle.demands.proofs.ExactFiles as exactly
+use Rattle.demands.proofs.Lists as lists
+use Rattle.demands.proofs.ListAnswers as told
 
 pub demands : Demands
 demands =
@@ -73,4 +75,25 @@ demands =
       file-reach = files.file-reach;
       file-page-alone = files.file-page-alone;
       file-exact = exactly.file-exact;
+      list-single = lists.list-single;
+      list-same = told.list-same;
+      list-told = told.list-told;
+      list-zero-past = told.list-zero-past;
+      list-zero-at-18 = told.list-zero-at-18;
+      list-untold-at-100 = told.list-untold-at-100;
+      list-answers-kept = told.list-answers-kept;
+      list-answers-length = told.list-answers-length;
+      list-refused-trays = lists.list-refused-trays;
+      list-refused-job = lists.list-refused-job;
+      list-output-kept = lists.list-output-kept;
+      list-output-length = lists.list-output-length;
+      list-scratch-kept = lists.list-scratch-kept;
+      list-scratch-length = lists.list-scratch-length;
+      list-scratch-zero = lists.list-scratch-zero;
+      list-later-wins = lists.list-later-wins;
+      list-page = lists.list-page;
+      list-hidden = lists.list-hidden;
+      list-reach = lists.list-reach;
+      list-page-alone = lists.list-page-alone;
+      list-exact = lists.list-exact;
     }

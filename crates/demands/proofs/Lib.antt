@@ -28,3 +28,6 @@ mod Exact
 mod ExactJob
 mod ExactFiles
 mod ExactWorked
+-- lists of jobs
+mod Lists
+mod ListAnswers

@@ -1,9 +1,11 @@
 -- What a job leaves alone: read off what its trays hold afterwards.
 -- Assumes nothing.
-use mathlib.Core.Path.{_≡_, refl, sym, ap}
+use mathlib.Core.Path.{_≡_, refl, sym, ap, _∙_}
 use mathlib.Core.Bool.{Bool, true, false}
+use mathlib.Core.Logic.{by-cases}
 use mathlib.Core.List.{List}
-use Prim.Native.Nat.{ℕ}
+use Prim.Native.Nat.{ℕ, _≤_}
+use native.Mathlib.Decide.{decLt}
 use native.Mathlib.Omega.{arith}
 use lib.ListN.{length, getD}
 use Rattle.refusal.specs.Answer.{numberOf, workIn, isDone, whenDone}
@@ -14,6 +16,7 @@ use Rattle.ticket.specs.Reading.{shown}
 use Rattle.placement.specs.Placement.{inside, sourcePage, outputPage}
 use Rattle.placement.specs.Laws.{inside-pixel}
 use Rattle.placement.specs.declared.Placement.{Placement}
+use Rattle.placement.specs.declared.Placements.{Placements}
 use Rattle.tray.specs.Written.{cleared}
 use Rattle.tray.specs.Laws.{written-outside, length-written, cleared-above, cleared-below, length-cleared}
 use Rattle.job.specs.Job.{finished, jobScratch, answer, lengths, outputAfter, scratchAfter}
@@ -52,14 +55,21 @@ off-page p i off = by-place (inside p i) refl
     by-place true e = let x = inside-pixel p i e in absurd (off _ _ (x .column) (x .row) (sym (x .byte)))
     by-place false e = e
 
-pub output-kept : OutputKept
+-- a byte that is off the page if there is a finished one
+pub output-kept-if :
+    (ticket : List ℕ) (p : Placements) (source out scratch : List ℕ) (i : ℕ)
+    → ((work : ℕ) → answer ticket p (lengths source out scratch) ≡ Done work → OffPage (outputPage p) i)
+    → getD (outputAfter ticket p source out scratch) i 0 ≡ getD out i 0
 unfolding outputAfter
-output-kept ticket p source out scratch i off =
+output-kept-if ticket p source out scratch i off =
     when-either (λ (tray : List ℕ). getD tray i 0 ≡ getD out i 0)
     (answer ticket p (lengths source out scratch)) _ out refl
     (λ work e.
     written-outside (outputPage p) (finished (shown ticket) (sourcePage p) source) out i
-    (off-page (outputPage p) i off))
+    (off-page (outputPage p) i (off work e)))
+
+pub output-kept : OutputKept
+output-kept ticket p source out scratch i off = output-kept-if ticket p source out scratch i (λ work e. off)
 
 pub output-length : OutputLength
 unfolding outputAfter
@@ -67,12 +77,31 @@ output-length ticket p source out scratch =
     when-either (λ (tray : List ℕ). length tray ≡ length out) (answer ticket p (lengths source out scratch)) _ out refl
     (λ work e. length-written (outputPage p) (finished (shown ticket) (sourcePage p) source) out)
 
-pub scratch-kept : ScratchKept
+-- a byte that is past what is used if there is a finished page
+pub scratch-kept-if :
+    (ticket : List ℕ) (p : Placements) (source out scratch : List ℕ) (i : ℕ)
+    → ((work : ℕ) → answer ticket p (lengths source out scratch) ≡ Done work → jobScratch (shown ticket) p ≤ i)
+    → getD (scratchAfter ticket p source out scratch) i 0 ≡ getD scratch i 0
 unfolding scratchAfter
-scratch-kept ticket p source out scratch i past =
+scratch-kept-if ticket p source out scratch i past =
     when-either (λ (tray : List ℕ). getD tray i 0 ≡ getD scratch i 0)
     (answer ticket p (lengths source out scratch)) _ scratch refl
-    (λ work e. cleared-above (jobScratch (shown ticket) p) scratch i past)
+    (λ work e. cleared-above (jobScratch (shown ticket) p) scratch i (past work e))
+
+pub scratch-kept : ScratchKept
+scratch-kept ticket p source out scratch i past = scratch-kept-if ticket p source out scratch i (λ work e. past)
+
+-- a byte that is zero stays so
+pub scratch-stays-zero :
+    (ticket : List ℕ) (p : Placements) (source out scratch : List ℕ) (i : ℕ) → getD scratch i 0 ≡ 0
+    → getD (scratchAfter ticket p source out scratch) i 0 ≡ 0
+unfolding scratchAfter
+scratch-stays-zero ticket p source out scratch i none =
+    let used : ℕ = jobScratch (shown ticket) p in
+    when-either (λ (tray : List ℕ). getD tray i 0 ≡ 0) (answer ticket p (lengths source out scratch)) _ scratch none
+    (λ work e.
+    by-cases (decLt i used) (λ below. cleared-below used scratch i below)
+    (λ past. cleared-above used scratch i (omega arith) ∙ none))
 
 pub scratch-length : ScratchLength
 unfolding scratchAfter

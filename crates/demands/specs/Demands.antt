@@ -1,5 +1,5 @@
--- The demands that are theorems over the definitions of a job and of a job on a file: every statement of this crate, in
--- one record.
+-- The demands that are theorems over the definitions of a job, of a job on a file and of a list of jobs: every statement
+-- of this crate, in one record.
 -- proofs/Demands.antt has its proof.
 -- Assumes nothing.
 use Rattle.demands.specs.Same.{SameAnswer, SameNumber, SamePlace, SameWork}
@@ -16,6 +16,11 @@ use Rattle.demands.specs.Files.{FileOutputKept, FileOutputLength, FileSc
 use Rattle.demands.specs.Files.{FileScratchZero, FileRefusedOutput, FileRefusedScratch, FileRefusedWork}
 use Rattle.demands.specs.Files.{FileReadsBack, FilePageBack, FileHidden, FileWork, FileOnePass}
 use Rattle.demands.specs.Files.{FileSame, FileReach, FilePageAlone, FileExact}
+use Rattle.demands.specs.Lists.{ListSingle, ListSame, ListTold, ListZeroPast, ListZeroAt18, ListUntoldAt100}
+use Rattle.demands.specs.Lists.{ListAnswersKept, ListAnswersLength, ListRefusedTrays, ListRefusedJob}
+use Rattle.demands.specs.Lists.{ListOutputKept, ListOutputLength, ListScratchKept, ListScratchLength}
+use Rattle.demands.specs.Lists.{ListScratchZero, ListLaterWins, ListPage, ListHidden, ListReach, ListPageAlone}
+use Rattle.demands.specs.Lists.{ListExact}
 
 pub record Demands : Type 0 where
   -- 1. a refused job writes nothing; a finished one writes only its page and leaves the scratch it used at zero
@@ -83,3 +88,27 @@ pub record Demands : Type 0 where
   pub file-reach : FileReach
   pub file-page-alone : FilePageAlone
   pub file-exact : FileExact
+  -- document 02, wish 3: a list of jobs. Its answers are those of single calls, and depend on no byte of the trays
+  pub list-single : ListSingle
+  pub list-same : ListSame
+  pub list-told : ListTold
+  pub list-zero-past : ListZeroPast
+  pub list-zero-at-18 : ListZeroAt18
+  pub list-untold-at-100 : ListUntoldAt100
+  pub list-answers-kept : ListAnswersKept
+  pub list-answers-length : ListAnswersLength
+  -- 1. it writes the finished pages and nothing else, the later job's bytes where pages overlap
+  pub list-refused-trays : ListRefusedTrays
+  pub list-refused-job : ListRefusedJob
+  pub list-output-kept : ListOutputKept
+  pub list-output-length : ListOutputLength
+  pub list-scratch-kept : ListScratchKept
+  pub list-scratch-length : ListScratchLength
+  pub list-scratch-zero : ListScratchZero
+  pub list-later-wins : ListLaterWins
+  -- 2. and 3., of each job's page as that job leaves it
+  pub list-page : ListPage
+  pub list-hidden : ListHidden
+  pub list-reach : ListReach
+  pub list-page-alone : ListPageAlone
+  pub list-exact : ListExact

@@ -7,4 +7,5 @@ pub mod Exact
 pub mod Work
 pub mod Flip
 pub mod Files
+pub mod Lists
 pub mod Demands
