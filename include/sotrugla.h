@@ -333,7 +333,7 @@ struct sotrugla_listed_job {
  *   18   count is above SOTRUGLA_LIST_JOBS: the place is 0, and so are the first SOTRUGLA_LIST_ANSWERS answers
  *   100  fewer numbers of jobs than count needs: the place is the numbers needed, no answer is written
  * Otherwise the answer is 0, 0, 0: the work of each job is in its own.
- * Cost: that of the single calls. */
+ * Cost: that of the single calls, and the clearing of the answers. */
 struct sotrugla_outcome sotrugla_run_tray(size_t count, const uint64_t *jobs, size_t jobs_length,
                                           const uint8_t *tickets, size_t tickets_length,
                                           const uint8_t *source, size_t source_length,

@@ -1,25 +1,26 @@
 -- From what single jobs leave to what the whole call promises. Assumes nothing.
 use mathlib.Core.Path.{_≡_, refl, sym, ap, ap₂, _∙_}
-use mathlib.Core.Bool.{true, false}
+use mathlib.Core.Bool.{true}
 use mathlib.Core.List.{List, [], _++_}
-use Prim.Native.Nat.{ℕ, zero, suc, _+_, _-_, _*_, _≤_, _<_}
+use Prim.Native.Nat.{ℕ, suc, _+_, _-_, _*_, _≤_, _<_}
 use native.Mathlib.Numerals.{add-one}
 use native.Mathlib.Omega.{arith}
 use borrow.Author.Tests.{le-leb, lt-leb}
+use lib.Dec.{leb}
 use lib.ListN.{length, drop}
-use lib.Seq.{sets, length-sets}
-use Rattle.refusal.specs.Answer.{isDone, whenDone}
+use lib.Seq.{sets}
+use Rattle.refusal.specs.Answer.{whenDone}
 use Rattle.refusal.specs.Chain.{unless, _then_}
 use Rattle.refusal.specs.declared.Answer.{Answer}
 use Rattle.refusal.specs.declared.Answer.the-variants.{Done, Refused}
 use Rattle.refusal.specs.declared.Later.the-variants.{TooManyJobs, NumbersTooFew}
 use Rattle.refusal.specs.declared.Refusal.the-variants.{Later}
-use Rattle.placement.specs.declared.Placements.{Placements}
 use Rattle.tray.specs.Written.{cleared}
 use Rattle.job.specs.Job.{lengths, answer, outputAfter, scratchAfter}
 use Rattle.batch.specs.Listed.{listedAt, ticketOf}
 use Rattle.batch.specs.Batch.{Lent, Trays, trays, answered, afterJob, traysAfter, answerAt}
-use Rattle.batch.specs.Call.{mostJobs, numbersOf, answersNeeded, told, toldFrom, answersOf, listAnswer, listOutputAfter, listScratchAfter, listAnswersAfter}
+use Rattle.batch.specs.Call.{mostJobs, numbersOf, answersNeeded, told, toldFrom, answersOf, listAnswer}
+use Rattle.batch.specs.Call.{listOutputAfter, listScratchAfter, listAnswersAfter}
 use Rattle.batch.specs.Promises.{RanOne, RanJobs}
 use Rattle.batch.specs.declared.Listed.{Listed}
 use Rattle.batch.proofs.Stores.{told-more, all-told}
@@ -59,7 +60,9 @@ pub record Underway (count : ℕ) (l : Lent) (answers : List ℕ) (k : ℕ) (now
   pub stored-long : length stored ≡ length answers
   pub stored-is : sets stored (3 * k) (toldFrom l k (count - k)) ≡ sets answers 0 (toldFrom l 0 count)
 
-pub none-run : (count : ℕ) (l : Lent) (answers : List ℕ) → Underway count l answers 0 (trays (l .output) (l .scratch)) answers
+pub none-run :
+    (count : ℕ) (l : Lent) (answers : List ℕ)
+    → Underway count l answers 0 (trays (l .output) (l .scratch)) answers
 unfolding traysAfter
 none-run count l answers =
     record {
@@ -147,21 +150,24 @@ module _ (count : ℕ) (l : Lent) (answers : List ℕ) where
       (rw (lt-leb answersNeeded (length answers) short) refl)
 
   module _ (room : answersNeeded ≤ length answers) where
+    fits : leb answersNeeded (length answers) ≡ true
+    fits = le-leb answersNeeded (length answers) room
+
     pub too-many : (stored : List ℕ) → mostJobs < count → stored ≡ cleared answersNeeded answers
         → Called count l answers (Refused (Later TooManyJobs) 0) (l .output) (l .scratch) stored
     unfolding listAnswer listAnswersAfter unless _then_ whenDone
     too-many stored many is =
         called (Refused (Later TooManyJobs) 0) stored
-        (rw (le-leb answersNeeded (length answers) room, lt-leb count mostJobs many) refl)
-        (rw (le-leb answersNeeded (length answers) room, lt-leb count mostJobs many) is)
+        (rw (fits, lt-leb count mostJobs many) refl)
+        (rw (fits, lt-leb count mostJobs many) is)
 
     pub numbers-short : count ≤ mostJobs → length (l .jobs) < numbersOf count
         → Called count l answers (Refused (Later NumbersTooFew) (numbersOf count)) (l .output) (l .scratch) answers
     unfolding listAnswer listAnswersAfter unless _then_ whenDone
     numbers-short few short =
         called (Refused (Later NumbersTooFew) (numbersOf count)) answers
-        (rw (le-leb answersNeeded (length answers) room, le-leb count mostJobs few, lt-leb (numbersOf count) (length (l .jobs)) short) refl)
-        (rw (le-leb answersNeeded (length answers) room, le-leb count mostJobs few, lt-leb (numbersOf count) (length (l .jobs)) short) refl)
+        (rw (fits, le-leb count mostJobs few, lt-leb (numbersOf count) (length (l .jobs)) short) refl)
+        (rw (fits, le-leb count mostJobs few, lt-leb (numbersOf count) (length (l .jobs)) short) refl)
 
     pub all-called : (zeros stored : List ℕ) (after : Trays) → count ≤ mostJobs → numbersOf count ≤ length (l .jobs)
         → zeros ≡ cleared answersNeeded answers → RanJobs count l zeros after stored
@@ -172,8 +178,8 @@ module _ (count : ℕ) (l : Lent) (answers : List ℕ) where
         ran .stored-is ∙ ap (λ (d : List ℕ). sets d 0 (toldFrom l 0 count)) clear ∙ all-told l count answers few room in
         let done =
         called (Done 0) stored
-        (rw (le-leb answersNeeded (length answers) room, le-leb count mostJobs few, le-leb (numbersOf count) (length (l .jobs)) numbers) refl)
-        (rw (le-leb answersNeeded (length answers) room, le-leb count mostJobs few, le-leb (numbersOf count) (length (l .jobs)) numbers) put) in (
+        (rw (fits, le-leb count mostJobs few, le-leb (numbersOf count) (length (l .jobs)) numbers) refl)
+        (rw (fits, le-leb count mostJobs few, le-leb (numbersOf count) (length (l .jobs)) numbers) put) in (
           done .0,
           (
             ap (λ (t : Trays). t .output) (ran .left-is) ∙ done .1 .0,

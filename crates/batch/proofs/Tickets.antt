@@ -1,6 +1,6 @@
 -- A ticket of the list: its part of the buffer, or nothing. Assumes nothing.
 use mathlib.Core.Path.{_≡_, refl, ap}
-use mathlib.Core.Bool.{Bool, true, false, cond}
+use mathlib.Core.Bool.{Bool, true, false}
 use mathlib.Core.List.{List, []}
 use Prim.Native.Nat.{ℕ, _+_, _-_}
 use native.Mathlib.Nat.{add-sub-cancel-left}
@@ -13,7 +13,8 @@ module _ (tickets : List ℕ) (job : Listed) where
   abbrev pub room : Bool
   room = leb (job .start + job .length) (length tickets)
 
-  pub ticket-there : room ≡ true → take (job .start + job .length - job .start) (drop (job .start) tickets) ≡ ticketOf tickets job
+  pub ticket-there : room ≡ true
+      → take (job .start + job .length - job .start) (drop (job .start) tickets) ≡ ticketOf tickets job
   unfolding ticketOf
   ticket-there there =
       rw there (ap (λ (n : ℕ). take n (drop (job .start) tickets)) (add-sub-cancel-left (job .start) (job .length)))

@@ -22,7 +22,10 @@ wraps : (start size end room : ℕ) → start < 2 ^ 64 → size < 2 ^ 64 → roo
 wraps start size end room s z r large e =
     let split : start + size ≡ (start + size - 2 ^ 64) + 2 ^ 64 = omega arith in
     let low : end ≡ start + size - 2 ^ 64 =
-    e ∙ ap (λ (n : ℕ). n % 2 ^ 64) split ∙ add-mod-right (start + size - 2 ^ 64) (2 ^ 64) ∙ mod-eq-of-lt (omega arith) in
+    e
+    ∙ ap (λ (n : ℕ). n % 2 ^ 64) split
+    ∙ add-mod-right (start + size - 2 ^ 64) (2 ^ 64)
+    ∙ mod-eq-of-lt (omega arith) in
     rw (lt-leb start end (omega arith), lt-leb (start + size) room (omega arith)) refl
 
 pub within-is : (start size end room : ℕ) → start < 2 ^ 64 → size < 2 ^ 64 → room < 2 ^ 64

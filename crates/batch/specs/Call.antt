@@ -1,7 +1,7 @@
 -- A whole tray in one call: what is answered, and what every buffer holds afterwards. Document 02, wish 3: "a refused
--- job is answered and the rest go on; 256 answers come back, zero past the list and at 18." "Refusals: 18, more than 256
--- jobs, for the whole list before any job, place 0." The answers are a row of numbers, three for each job: that, and
--- what becomes of a buffer of numbers that is too short, is decided here.
+-- job is answered and the rest go on; 256 answers come back, zero past the list and at 18." "Refusals: 18, more than
+-- 256 jobs, for the whole list before any job, place 0." The answers are a row of numbers, three for each job: that,
+-- and what becomes of a buffer of numbers that is too short, is decided here.
 -- Assumes nothing.
 use mathlib.Core.Bool.{cond}
 use mathlib.Core.List.{List, [], _∷_, _++_}

@@ -1,27 +1,26 @@
 -- What those above may rely on, in plain facts: nobody above unfolds why a list is refused, or how a ticket is cut out
 -- of its buffer.
 -- Assumes nothing.
-use mathlib.Core.Path.{_≡_, refl, sym, ap, _∙_}
+use mathlib.Core.Path.{_≡_, refl}
 use mathlib.Core.Bool.{Bool, true, false, cond}
-use mathlib.Core.Logic.{by-cases}
 use mathlib.Core.List.{List, [], _∷_, _++_}
-use Prim.Native.Nat.{ℕ, zero, suc, _+_, _-_, _*_, _≤_, _<_}
-use native.Mathlib.Decide.{decLt}
+use Prim.Native.Nat.{ℕ, zero, suc, _+_, _-_, _*_, _≤_}
 use native.Mathlib.Omega.{arith}
 use borrow.Author.Tests.{leb-true, le-leb}
 use lib.Dec.{leb}
-use lib.ListN.{length, getD, take, drop, replicate}
+use lib.ListN.{length, take, drop}
 use lib.Seq.{getD-drop}
 use Rattle.refusal.specs.Answer.{numberOf, isDone}
 use Rattle.refusal.specs.Chain.{unless, _then_, then-done, unless-done}
-use Rattle.refusal.specs.declared.Answer.the-variants.{Done}
+use Rattle.refusal.specs.declared.Answer.{Answer}
 use Rattle.refusal.specs.declared.Later.the-variants.{TooManyJobs, NumbersTooFew}
 use Rattle.refusal.specs.declared.Refusal.the-variants.{Later}
 use Rattle.ticket.specs.Laws.{Bytes}
 use Rattle.tray.specs.Written.{cleared}
 use Rattle.batch.specs.Listed.{ticketOf}
 use Rattle.batch.specs.Batch.{Lent}
-use Rattle.batch.specs.Call.{mostJobs, numbersOf, answersNeeded, listAnswer, toldFrom, answersOf, listAnswersAfter}
+use Rattle.batch.specs.Call.{mostJobs, numbersOf, answersNeeded, listAnswer, toldFrom, answersOf}
+use Rattle.batch.specs.Call.{listAnswersAfter}
 use Rattle.batch.specs.declared.Listed.{Listed}
 
 -- ---- a list that is run
@@ -31,7 +30,8 @@ pub record Runs (count numbers answers : ℕ) : Type 0 where
   pub there : numbersOf count ≤ numbers
   pub room : answersNeeded ≤ answers
 
-pub list-runs : (count numbers answers : ℕ) → isDone (listAnswer count numbers answers) ≡ true → Runs count numbers answers
+pub list-runs :
+    (count numbers answers : ℕ) → isDone (listAnswer count numbers answers) ≡ true → Runs count numbers answers
 unfolding listAnswer
 list-runs count numbers answers done =
     let first = unless (leb answersNeeded answers) (Later NumbersTooFew) answersNeeded in
@@ -41,7 +41,9 @@ list-runs count numbers answers done =
     let from-second = then-done second third (from-first .1) in
     record {
       few = leb-true _ _ (unless-done (leb count mostJobs) (Later TooManyJobs) 0 (from-second .0));
-      there = leb-true _ _ (unless-done (leb (numbersOf count) numbers) (Later NumbersTooFew) (numbersOf count) (from-second .1));
+      there =
+          leb-true _ _
+          (unless-done (leb (numbersOf count) numbers) (Later NumbersTooFew) (numbersOf count) (from-second .1));
       room = leb-true _ _ (unless-done (leb answersNeeded answers) (Later NumbersTooFew) answersNeeded (from-first .0));
     }
 
@@ -73,10 +75,17 @@ unfolding toldFrom
 told-count l k zero = refl
 told-count l k (suc n) = let more = told-count l (suc k) n in omega arith
 
--- an answer to the whole list, and what is left of the answers, by the three tests
+-- the answer to the whole list, by its three tests
+abbrev chain : Bool → Bool → Bool → ℕ → Answer
+chain a b c needed =
+    unless a (Later NumbersTooFew) answersNeeded
+    then unless b (Later TooManyJobs) 0
+    then unless c (Later NumbersTooFew) needed
+
+-- and what is left of the answers
 at-18 :
     (a b c : Bool) (needed : ℕ) (all zeros kept : List ℕ)
-    → numberOf (unless a (Later NumbersTooFew) answersNeeded then unless b (Later TooManyJobs) 0 then unless c (Later NumbersTooFew) needed) ≡ 18
+    → numberOf (chain a b c needed) ≡ 18
     → cond a (cond b (cond c all kept) zeros) kept ≡ zeros
 unfolding unless _then_ numberOf
 at-18 false b c needed all zeros kept e = absurd (omega arith)
@@ -86,7 +95,7 @@ at-18 true true true needed all zeros kept e = absurd (omega arith)
 
 at-100 :
     (a b c : Bool) (needed : ℕ) (all zeros kept : List ℕ)
-    → numberOf (unless a (Later NumbersTooFew) answersNeeded then unless b (Later TooManyJobs) 0 then unless c (Later NumbersTooFew) needed) ≡ 100
+    → numberOf (chain a b c needed) ≡ 100
     → cond a (cond b (cond c all kept) zeros) kept ≡ kept
 unfolding unless _then_ numberOf
 at-100 false b c needed all zeros kept e = refl
@@ -100,7 +109,8 @@ module _ (count : ℕ) (l : Lent) (answers : List ℕ) where
   unfolding listAnswer listAnswersAfter
   answers-at-18 e = at-18 _ _ _ (numbersOf count) _ _ _ e
 
-  pub answers-at-100 : numberOf (listAnswer count (length (l .jobs)) (length answers)) ≡ 100 → listAnswersAfter count l answers ≡ answers
+  pub answers-at-100 : numberOf (listAnswer count (length (l .jobs)) (length answers)) ≡ 100
+      → listAnswersAfter count l answers ≡ answers
   unfolding listAnswer listAnswersAfter
   answers-at-100 e = at-100 _ _ _ (numbersOf count) _ _ _ e
 
@@ -109,7 +119,12 @@ module _ (count : ℕ) (l : Lent) (answers : List ℕ) where
   unfolding listAnswersAfter
   answers-run done =
       let runs = list-runs count (length (l .jobs)) (length answers) done in
-      rw (le-leb answersNeeded (length answers) (runs .room), le-leb count mostJobs (runs .few), le-leb (numbersOf count) (length (l .jobs)) (runs .there)) refl
+      rw (
+        le-leb answersNeeded (length answers) (runs .room),
+        le-leb count mostJobs (runs .few),
+        le-leb (numbersOf count) (length (l .jobs)) (runs .there),
+      )
+      refl
 
 -- what holds of the answers as they were, cleared, and told holds after every call
 either :

@@ -1,4 +1,4 @@
--- What the functions below the call ask and promise one another. Nothing here is needed to read what a call does (Call).
+-- What the functions below the call promise one another. Nothing here is needed to read what a call does (Call).
 -- Assumes nothing.
 use mathlib.Core.Path.{_≡_}
 use mathlib.Core.List.{List}

@@ -45,7 +45,8 @@ fn run_jobs(
 )
     requires { ⌜ (8 * count ≤ length (now jobs)) × (3 * count ≤ length (now answers)) ⌝ }
     ensures { λ _. ⌜ RanJobs count
-        (lent (now (jobs .entry)) (now (tickets .entry)) (now (source .entry)) (now (output .entry)) (now (scratch .entry)))
+        (lent (now (jobs .entry)) (now (tickets .entry)) (now (source .entry))
+        (now (output .entry)) (now (scratch .entry)))
         (now (answers .entry)) (trays (now (output .exit)) (now (scratch .exit))) (now (answers .exit)) ⌝ }
 {
     let mut k: usize = 0;
@@ -69,13 +70,16 @@ pub fn run(
 ) -> Answer
     ensures answered { λ r. ⌜ r ≡ listAnswer count (length (now (jobs .entry))) (length (now (answers .entry))) ⌝ }
     ensures written { λ _. ⌜ now (output .exit) ≡ listOutputAfter count
-        (lent (now (jobs .entry)) (now (tickets .entry)) (now (source .entry)) (now (output .entry)) (now (scratch .entry)))
+        (lent (now (jobs .entry)) (now (tickets .entry)) (now (source .entry))
+        (now (output .entry)) (now (scratch .entry)))
         (now (answers .entry)) ⌝ }
     ensures cleared { λ _. ⌜ now (scratch .exit) ≡ listScratchAfter count
-        (lent (now (jobs .entry)) (now (tickets .entry)) (now (source .entry)) (now (output .entry)) (now (scratch .entry)))
+        (lent (now (jobs .entry)) (now (tickets .entry)) (now (source .entry))
+        (now (output .entry)) (now (scratch .entry)))
         (now (answers .entry)) ⌝ }
     ensures told { λ _. ⌜ now (answers .exit) ≡ listAnswersAfter count
-        (lent (now (jobs .entry)) (now (tickets .entry)) (now (source .entry)) (now (output .entry)) (now (scratch .entry)))
+        (lent (now (jobs .entry)) (now (tickets .entry)) (now (source .entry))
+        (now (output .entry)) (now (scratch .entry)))
         (now (answers .entry)) ⌝ }
 {
     if answers.len() < answers::ANSWERS {

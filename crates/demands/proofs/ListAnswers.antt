@@ -1,7 +1,7 @@
 -- The numbers that a whole tray's call gives back, read off its definition.
 -- Assumes nothing.
-use mathlib.Core.Path.{_≡_, refl, sym, ap, ap₂, _∙_}
-use mathlib.Core.List.{List, [], _∷_, _++_, append-assoc}
+use mathlib.Core.Path.{_≡_, refl, ap, ap₂, _∙_}
+use mathlib.Core.List.{List, _++_, append-assoc}
 use Prim.Native.Nat.{ℕ, zero, suc, _+_, _-_, _*_, _≤_, _<_}
 use native.Mathlib.Nat.{add-zero, zero-add}
 use native.Mathlib.Omega.{arith}
@@ -9,12 +9,10 @@ use lib.ListN.{length, getD, drop, replicate, length-append, length-drop, length
 use lib.ListN.{List·getD-append}
 use lib.Seq.{getD-append-add, getD-drop}
 use Rattle.refusal.specs.Answer.{numberOf, placeOf, workIn}
-use Rattle.refusal.specs.declared.Answer.{Answer}
 use Rattle.tray.specs.Laws.{cleared-below, cleared-above, length-cleared}
 use Rattle.batch.specs.Batch.{Lent, lent, answerAt}
 use Rattle.batch.specs.Call.{answersNeeded, told, toldFrom, answersOf, listAnswersAfter}
 use Rattle.batch.specs.Laws.{list-runs, told-count, answers-at-18, answers-at-100, answers-run, answers-either}
-use Rattle.demands.specs.Same.{SameLengths}
 use Rattle.demands.specs.Lists.{ListRun, ListSame, ListTold, ListZeroPast, ListZeroAt18, ListUntoldAt100}
 use Rattle.demands.specs.Lists.{ListAnswersKept, ListAnswersLength}
 use Rattle.demands.proofs.Lists.{answer-same}
@@ -40,7 +38,8 @@ list-untold-at-100 count l answers e = answers-at-100 count l answers e
 
 pub list-zero-at-18 : ListZeroAt18
 list-zero-at-18 count l answers i e below =
-    ap (λ (numbers : List ℕ). getD numbers i 0) (answers-at-18 count l answers e) ∙ cleared-below answersNeeded answers i below
+    ap (λ (numbers : List ℕ). getD numbers i 0) (answers-at-18 count l answers e)
+    ∙ cleared-below answersNeeded answers i below
 
 -- the answer to job k + j, behind those to the jobs from k on before it
 told-at :
@@ -86,7 +85,8 @@ list-zero-past count l answers i run past below =
     let zeros : List ℕ = replicate (answersNeeded - 3 * count) 0 in
     let rest : List ℕ = drop answersNeeded answers in
     let at : i ≡ length (toldFrom l 0 count) + (i - 3 * count) = omega arith in
-    let here : i - 3 * count < length zeros = rw (length-replicate {A = ℕ} (answersNeeded - 3 * count) 0) (omega arith) in
+    let long = length-replicate {A = ℕ} (answersNeeded - 3 * count) 0 in
+    let here : i - 3 * count < length zeros = rw long (omega arith) in
     ap (λ (numbers : List ℕ). getD numbers i 0) (parts count l answers run)
     ∙ ap (λ (n : ℕ). getD (toldFrom l 0 count ++ (zeros ++ rest)) n 0) at
     ∙ getD-append-add (toldFrom l 0 count) (zeros ++ rest) (i - 3 * count) 0

@@ -1,21 +1,21 @@
 -- The demands on a whole tray in one call, lifted from the job's: each job of a list is a single call.
 -- Assumes nothing.
 use mathlib.Core.Path.{_≡_, refl, sym, ap, ap₂, _∙_, subst}
-use mathlib.Core.Bool.{Bool, true, false, false≢true}
-use mathlib.Core.Logic.{by-cases, _≢_}
-use mathlib.Core.List.{List, [], _∷_, _++_}
-use Prim.Native.Nat.{ℕ, zero, suc, _+_, _-_, _*_, _≤_, _<_}
+use mathlib.Core.Bool.{true, false, false≢true}
+use mathlib.Core.Logic.{_≢_}
+use mathlib.Core.List.{List}
+use Prim.Native.Nat.{ℕ, zero, suc, _+_, _-_, _≤_, _<_}
 use native.Mathlib.Nat.{add-zero, add-suc}
 use native.Mathlib.Omega.{arith}
 use lib.ListN.{length, getD}
-use Rattle.refusal.specs.Answer.{numberOf, workIn, isDone, whenDone}
+use Rattle.refusal.specs.Answer.{workIn, isDone, whenDone}
 use Rattle.refusal.specs.Chain.{when-done, when-refused}
 use Rattle.refusal.specs.declared.Answer.{Answer}
 use Rattle.refusal.specs.declared.Answer.the-variants.{Done, Refused}
 use Rattle.ticket.specs.Reading.{shown}
 use Rattle.placement.specs.Placement.{pixelIn, byteOf, sourcePage, outputPage}
 use Rattle.placement.specs.declared.Placements.{Placements}
-use Rattle.job.specs.Job.{finished, jobScratch, answer, lengths, outputAfter, scratchAfter}
+use Rattle.job.specs.Job.{finished, jobScratch, answer, lengths}
 use Rattle.job.specs.Laws.{output-pixel}
 use Rattle.batch.specs.Listed.{placesIn, ticketIn, listedAt}
 use Rattle.batch.specs.Batch.{Lent, lent, Trays, trays, answered, afterJob, traysAfter, answerAt}
@@ -23,12 +23,12 @@ use Rattle.batch.specs.Call.{answerOf, listOutputAfter, listScratchAfter}
 use Rattle.batch.specs.Laws.{ticket-bytes}
 use Rattle.demands.specs.Same.{SameLengths}
 use Rattle.demands.specs.Untouched.{OffPage}
-use Rattle.demands.specs.Lists.{JobDone, ListRun, ListSingle, ListRefusedTrays, ListRefusedJob, ListOutputKept}
+use Rattle.demands.specs.Lists.{JobDone, ListSingle, ListRefusedTrays, ListRefusedJob, ListOutputKept}
 use Rattle.demands.specs.Lists.{ListOutputLength, ListScratchKept, ListScratchZero, ListScratchLength}
 use Rattle.demands.specs.Lists.{ListLaterWins, ListPage, ListHidden, ListReach, ListPageAlone, ListExact}
 use Rattle.demands.proofs.Same.{same-answer}
-use Rattle.demands.proofs.Untouched.{when-either, not-done, output-kept-if, output-length, scratch-kept-if, scratch-length}
-use Rattle.demands.proofs.Untouched.{scratch-zero, scratch-stays-zero, refused-output, refused-scratch}
+use Rattle.demands.proofs.Untouched.{when-either, not-done, output-kept-if, output-length, scratch-kept-if}
+use Rattle.demands.proofs.Untouched.{scratch-length, scratch-zero, scratch-stays-zero, refused-output, refused-scratch}
 use Rattle.demands.proofs.Reach.{reach, page-alone, hidden-white}
 use Rattle.demands.proofs.ExactJob.{exact-job-reach}
 
@@ -83,7 +83,8 @@ module _ (l : Lent) (k : ℕ) where
   unfolding answerAt answered
   done-single done = done-with (answerAt l k) done
 
-  single-done : (w : ℕ) → answer ticket places (lengths (l .source) (found .output) (found .scratch)) ≡ Done w → JobDone l k
+  single-done : (w : ℕ) → answer ticket places (lengths (l .source) (found .output) (found .scratch)) ≡ Done w
+      → JobDone l k
   unfolding answerAt answered isDone
   single-done w e = ap isDone e
 
@@ -118,7 +119,8 @@ module _ (jobs tickets source source′ out out′ scratch scratch′ : List ℕ
 
   -- job k finds trays of the same lengths
   found-lengths :
-      SameLengths source source′ (found one k .output) (found two k .output) (found one k .scratch) (found two k .scratch)
+      SameLengths source source′ (found one k .output) (found two k .output) (found one k .scratch)
+      (found two k .scratch)
   found-lengths =
       record {
         sources = same .sources;
@@ -139,7 +141,8 @@ list-reach jobs tickets source source′ out out′ scratch scratch′ k c r byt
     let l′ : Lent = lent jobs tickets source′ out′ scratch′ in
     reach (ticket l k) (places l k) source source′ (found l k .output) (found l′ k .output) (found l k .scratch)
     (found l′ k .scratch) (work l k) (ticket-bytes tickets (listedAt jobs k) bytes)
-    (found-lengths jobs tickets source source′ out out′ scratch scratch′ k same) (done-single l k done) c r c-in r-in agree
+    (found-lengths jobs tickets source source′ out out′ scratch scratch′ k same) (done-single l k done) c r c-in r-in
+    agree
 
 pub list-page-alone : ListPageAlone
 unfolding traysAfter afterJob
@@ -148,7 +151,8 @@ list-page-alone jobs tickets source source′ out out′ scratch scratch′ k c 
     let l′ : Lent = lent jobs tickets source′ out′ scratch′ in
     page-alone (ticket l k) (places l k) source source′ (found l k .output) (found l′ k .output) (found l k .scratch)
     (found l′ k .scratch) (work l k) (ticket-bytes tickets (listedAt jobs k) bytes)
-    (found-lengths jobs tickets source source′ out out′ scratch scratch′ k same) (done-single l k done) agree c r c-in r-in
+    (found-lengths jobs tickets source source′ out out′ scratch scratch′ k same) (done-single l k done) agree c r c-in
+    r-in
 
 pub list-exact : ListExact
 unfolding traysAfter afterJob
@@ -156,7 +160,8 @@ list-exact jobs tickets source out scratch k c r bytes done operation clear c′
     let l : Lent = lent jobs tickets source out scratch in
     let x =
     exact-job-reach (ticket l k) (places l k) (lengths source out scratch) (work l k) c r
-    (ticket-bytes tickets (listedAt jobs k) bytes) (sym (list-single l k) ∙ done-with (answerAt l k) done) operation clear
+    (ticket-bytes tickets (listedAt jobs k) bytes) (sym (list-single l k) ∙ done-with (answerAt l k) done) operation
+    clear
     c′ r′ near in
     let first : List ℕ → List ℕ → Lent = lent jobs tickets (x .pages .one) in
     let second : List ℕ → List ℕ → Lent = lent jobs tickets (x .pages .two) in
@@ -190,7 +195,8 @@ module _ (l : Lent) where
 
   pub trays-scratch-kept :
       (n i : ℕ)
-      → ((k : ℕ) → k < n → JobDone l k → jobScratch (shown (ticketIn (l .jobs) (l .tickets) k)) (placesIn (l .jobs) k) ≤ i)
+      → ((k : ℕ) → k < n → JobDone l k
+      → jobScratch (shown (ticketIn (l .jobs) (l .tickets) k)) (placesIn (l .jobs) k) ≤ i)
       → getD (traysAfter l n .scratch) i 0 ≡ getD (l .scratch) i 0
   unfolding traysAfter afterJob
   trays-scratch-kept zero i past = refl

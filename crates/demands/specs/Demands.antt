@@ -1,5 +1,5 @@
--- The demands that are theorems over the definitions of a job, of a job on a file and of a list of jobs: every statement
--- of this crate, in one record.
+-- The demands that are theorems over the definitions of a job, of a job on a file and of a list of jobs: every
+-- statement of this crate, in one record.
 -- proofs/Demands.antt has its proof.
 -- Assumes nothing.
 use Rattle.demands.specs.Same.{SameAnswer, SameNumber, SamePlace, SameWork}

@@ -185,7 +185,8 @@ pub record ListMatters (jobs tickets : List ℕ) (k source output scratch c r c�
   pub left-differs :
       (out out′ used used′ : List ℕ) → length out ≡ output → length out′ ≡ output → length used ≡ scratch
       → length used′ ≡ scratch
-      → leftBy (lent jobs tickets (pages .one) out used) k c r ≢ leftBy (lent jobs tickets (pages .two) out′ used′) k c r
+      → leftBy (lent jobs tickets (pages .one) out used) k c r
+      ≢ leftBy (lent jobs tickets (pages .two) out′ used′) k c r
 
 -- THE REACH IS EXACT, of a list.
 abbrev pub ListExact : Type 0

@@ -44,7 +44,8 @@ numbersNeeded = 264
 -- refused for its length, with how many numbers are needed, where the buffer of n numbers is too short for them
 unfoldable pub readOutcome : List ℕ → ℕ → Outcome
 readOutcome ticket n =
-    cond (ltb n numbersNeeded) (outcomeOf (Refused (Later NumbersTooFew) numbersNeeded)) (outcomeOf (reading ticket .answer))
+    cond (ltb n numbersNeeded) (outcomeOf (Refused (Later NumbersTooFew) numbersNeeded))
+    (outcomeOf (reading ticket .answer))
 
 -- the buffer: too short a one is not written, and of a longer one the numbers past the 264th keep their values
 unfoldable pub numbersAfter : List ℕ → List ℕ → List ℕ

@@ -22,13 +22,16 @@ pub extern "C" fn sotrugla_run_tray(
     ensures answered { λ r. ⌜ r ≡ outcomeOf
         (listAnswer count (length (now (jobs .entry))) (length (now (answers .entry)))) ⌝ }
     ensures written { λ _. ⌜ now (output .exit) ≡ listOutputAfter count
-        (lent (now (jobs .entry)) (now (tickets .entry)) (now (source .entry)) (now (output .entry)) (now (scratch .entry)))
+        (lent (now (jobs .entry)) (now (tickets .entry)) (now (source .entry))
+        (now (output .entry)) (now (scratch .entry)))
         (now (answers .entry)) ⌝ }
     ensures cleared { λ _. ⌜ now (scratch .exit) ≡ listScratchAfter count
-        (lent (now (jobs .entry)) (now (tickets .entry)) (now (source .entry)) (now (output .entry)) (now (scratch .entry)))
+        (lent (now (jobs .entry)) (now (tickets .entry)) (now (source .entry))
+        (now (output .entry)) (now (scratch .entry)))
         (now (answers .entry)) ⌝ }
     ensures told { λ _. ⌜ now (answers .exit) ≡ listAnswersAfter count
-        (lent (now (jobs .entry)) (now (tickets .entry)) (now (source .entry)) (now (output .entry)) (now (scratch .entry)))
+        (lent (now (jobs .entry)) (now (tickets .entry)) (now (source .entry))
+        (now (output .entry)) (now (scratch .entry)))
         (now (answers .entry)) ⌝ }
 {
     outcome_of(batch::run::run(count, jobs, tickets, source, output, scratch, answers))

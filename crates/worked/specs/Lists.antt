@@ -1,8 +1,8 @@
 -- A whole tray in one call, worked: three jobs erode rows of three pixels along two steps. The second is refused: its
 -- ticket's end, summed in 64 bits, would come round into the buffer, yet over whole numbers it is past it, and a ticket
 -- that is not there counts as empty. The third job's page begins on the last byte of the first one's, where its byte
--- stands. The numbers past the 768th keep their values. Then three lists that are refused as a whole: one of 257 jobs, one
--- with a number too few for its jobs, and one with a number too few for its answers.
+-- stands. The numbers past the 768th keep their values. Then three lists that are refused as a whole: one of 257 jobs,
+-- one with too few numbers for its jobs, and one with a number too few for its answers.
 -- Assumes nothing.
 use mathlib.Core.Path.{_≡_, refl}
 use Prim.Native.Nat.{ℕ}
@@ -50,7 +50,7 @@ ticket =
     1 ∷ 0 ∷ 1 ∷ 1 ∷ 2 ∷ 0 ∷ 1 ∷ 1 ∷ 3 ∷ 0 ∷ 4 ∷ 0 ∷ 1 ∷ 0 ∷ 0 ∷ 4 ∷ 0 ∷ 2 ∷ 0 ∷ 2 ∷ 5 ∷ 0 ∷ 2 ∷ 0 ∷ 0 ∷ 6 ∷ 0 ∷ 2
     ∷ 0 ∷ 0 ∷ []
 
--- a job: its ticket's start and length, three columns and one row, source and output offset, each with a stride of three
+-- a job: its ticket's start and length, three columns and one row, source and output offset, both strides three
 abbrev job : ℕ → ℕ → ℕ → ℕ → List ℕ → List ℕ
 job start size from to rest = start ∷ size ∷ 3 ∷ 1 ∷ from ∷ 3 ∷ to ∷ 3 ∷ rest
 

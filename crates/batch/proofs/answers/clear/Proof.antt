@@ -1,9 +1,9 @@
 -- `batch::answers::clear` meets its contract: after k turns the first k numbers are zero. Assumes nothing.
-use mathlib.Core.Path.{_≡_, refl, sym, ap, _∙_}
+use mathlib.Core.Path.{_≡_, refl, ap, _∙_}
 use mathlib.Core.List.{List, _++_}
 use Prim.Native.Nat.{ℕ, _-_, _≤_}
 use native.Mathlib.Omega.{arith}
-use borrow.Author.Fill.{fill-none, fill-more}
+use borrow.Author.Fill.{fill-more}
 use borrow.Author.Needs.{needs}
 use denote.Ref.{now}
 use lib.ListN.{length, set, drop, replicate, length-set}
@@ -27,7 +27,8 @@ loop-again c =
     let start : List ℕ = now (c .before .before .args .answers) in (
       omega arith,
       length-set (l .answers) (l .k) 0 ∙ l .inv .1,
-      ap (λ (numbers : List ℕ). set numbers (l .k) 0) (l .inv .2) ∙ fill-more (l .k) 0 start (omega (arith, c .before .before .pre)),
+      ap (λ (numbers : List ℕ). set numbers (l .k) 0) (l .inv .2)
+          ∙ fill-more (l .k) 0 start (omega (arith, c .before .before .pre)),
     )
 
 returns : tie.Need-returns Inv-loop μ-loop

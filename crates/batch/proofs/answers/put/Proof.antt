@@ -1,12 +1,8 @@
 -- `batch::answers::put` meets its contract: three stores in a row. Assumes nothing.
-use mathlib.Core.Path.{_≡_, ap, _∙_}
-use mathlib.Core.List.{List, [], _∷_}
-use Prim.Native.Nat.{ℕ}
 use native.Mathlib.Omega.{arith}
 use borrow.Author.Needs.{needs}
 use denote.Ref.{now}
 use lib.ListN.{length-set}
-use lib.Seq.{sets}
 use Rattle.batch.proofs.Stores.{answer-put}
 use Rattle.batch.proofs.answers.put.Statement.{statement}
 use Rattle.batch.proofs.answers.put.Tie as tie
@@ -20,7 +16,8 @@ slice-write-answers-3 c = simp length-set (omega arith)
 returns : tie.Need-returns
 returns c =
     let a = c .before .before .before .before .args in
-    answer-put (now (a .answers)) (a .k) _ _ _ _ (c .before .before .number .ensures) (c .before .place .ensures) (c .work .ensures)
+    answer-put (now (a .answers)) (a .k) _ _ _ _ (c .before .before .number .ensures) (c .before .place .ensures)
+    (c .work .ensures)
 
 pub put-spec : {M : Type 1} → statement M
 put-spec =

@@ -1,11 +1,8 @@
--- `batch::run::run_jobs` meets its contract: after k turns the trays are as after k jobs, and what is stored and still to
--- be stored are all answers. Assumes nothing.
-use mathlib.Core.Path.{_≡_, refl}
-use Prim.Native.Nat.{_-_, _*_, _≤_}
+-- `batch::run::run_jobs` meets its contract: after k turns the trays are as after k jobs, and what is stored and still
+-- to be stored are all answers. Assumes nothing.
+use Prim.Native.Nat.{_-_}
 use native.Mathlib.Omega.{arith}
 use borrow.Author.Needs.{needs}
-use denote.Ref.{now}
-use lib.ListN.{length}
 use Rattle.batch.specs.Batch.{lent, trays}
 use Rattle.batch.proofs.Running.{Underway, none-run, one-more, all-run}
 use Rattle.batch.proofs.run.run_jobs.Statement.{statement}
@@ -34,7 +31,8 @@ loop-again c =
     let one = c .before .before .before .before .before .before .before .before in
     let test = one .before .before .before in
     let loop = test .before .loop in
-    one-more _ _ _ (loop .k) _ _ _ _ _ (test .loop-test .taken) (loop .inv) (search needs) (search needs) (one .run-one .ensures) (c .before .before .put .ensures)
+    one-more _ _ _ (loop .k) _ _ _ _ _ (test .loop-test .taken) (loop .inv) (search needs) (search needs)
+    (one .run-one .ensures) (c .before .before .put .ensures)
 
 returns : tie.Need-returns Inv-loop μ-loop
 returns c = all-run _ _ _ (c .before .loop .k) _ _ (omega (arith, c .before .loop .inv .most)) (c .before .loop .inv)
