@@ -18,8 +18,8 @@ use Rattle.refusal.specs.declared.Refusal.the-variants.{Later}
 use Rattle.tray.specs.Written.{cleared}
 use Rattle.job.specs.Job.{lengths, answer, outputAfter, scratchAfter}
 use Rattle.batch.specs.Listed.{listedAt, ticketOf}
-use Rattle.batch.specs.Batch.{Lent, Trays, trays, answered, afterJob, traysAfter, answerAt}
-use Rattle.batch.specs.Call.{mostJobs, numbersOf, answersNeeded, told, toldFrom, answersOf, listAnswer}
+use Rattle.batch.specs.Batch.{Lent, Trays, trays, singleAnswer, afterJob, traysAfter, answerAt}
+use Rattle.batch.specs.Call.{mostJobs, jobNumbers, answersNeeded, told, toldFrom, answersOf, listAnswer}
 use Rattle.batch.specs.Call.{listOutputAfter, listScratchAfter, listAnswersAfter}
 use Rattle.batch.specs.Promises.{RanOne, RanJobs}
 use Rattle.batch.specs.declared.Listed.{Listed}
@@ -35,13 +35,13 @@ pub ran-one :
     × ((after ≡ outputAfter ticket (job .places) source output scratch)
     × (used ≡ scratchAfter ticket (job .places) source output scratch))
     → RanOne tickets source named (trays output scratch) (trays after used) given
-unfolding answered afterJob
+unfolding singleAnswer afterJob
 ran-one tickets source output scratch after used ticket job named given is part ran =
     record {
       answered-is =
           ran .0
           ∙ ap (λ (t : List ℕ). answer t (job .places) (lengths source output scratch)) part
-          ∙ ap (λ (j : Listed). answered tickets source j (trays output scratch)) is;
+          ∙ ap (λ (j : Listed). singleAnswer tickets source j (trays output scratch)) is;
       left-is =
           ap₂ trays
           (ran .1 .0 ∙ ap (λ (t : List ℕ). outputAfter t (job .places) source output scratch) part)
@@ -86,7 +86,7 @@ unfolding traysAfter answerAt
 one-more count l answers k before after stored next given below u output-kept scratch-kept ran put =
     let left : count - k ≡ suc (count - (k + 1)) = omega arith in
     let is : given ≡ answerAt l k =
-    ran .answered-is ∙ ap (answered (l .tickets) (l .source) (listedAt (l .jobs) k)) (u .left-is) in
+    ran .answered-is ∙ ap (singleAnswer (l .tickets) (l .source) (listedAt (l .jobs) k)) (u .left-is) in
     let more =
     told-more l k (count - (k + 1)) given stored next _ is put
     (ap (λ (n : ℕ). sets stored (3 * k) (toldFrom l k n)) (sym left) ∙ u .stored-is) in
@@ -161,15 +161,15 @@ module _ (count : ℕ) (l : Lent) (answers : List ℕ) where
         (rw (fits, lt-leb count mostJobs many) refl)
         (rw (fits, lt-leb count mostJobs many) is)
 
-    pub numbers-short : count ≤ mostJobs → length (l .jobs) < numbersOf count
-        → Called count l answers (Refused (Later NumbersTooFew) (numbersOf count)) (l .output) (l .scratch) answers
+    pub numbers-short : count ≤ mostJobs → length (l .jobs) < jobNumbers count
+        → Called count l answers (Refused (Later NumbersTooFew) (jobNumbers count)) (l .output) (l .scratch) answers
     unfolding listAnswer listAnswersAfter unless _then_ whenDone
     numbers-short few short =
-        called (Refused (Later NumbersTooFew) (numbersOf count)) answers
-        (rw (fits, le-leb count mostJobs few, lt-leb (numbersOf count) (length (l .jobs)) short) refl)
-        (rw (fits, le-leb count mostJobs few, lt-leb (numbersOf count) (length (l .jobs)) short) refl)
+        called (Refused (Later NumbersTooFew) (jobNumbers count)) answers
+        (rw (fits, le-leb count mostJobs few, lt-leb (jobNumbers count) (length (l .jobs)) short) refl)
+        (rw (fits, le-leb count mostJobs few, lt-leb (jobNumbers count) (length (l .jobs)) short) refl)
 
-    pub all-called : (zeros stored : List ℕ) (after : Trays) → count ≤ mostJobs → numbersOf count ≤ length (l .jobs)
+    pub all-called : (zeros stored : List ℕ) (after : Trays) → count ≤ mostJobs → jobNumbers count ≤ length (l .jobs)
         → zeros ≡ cleared answersNeeded answers → RanJobs count l zeros after stored
         → Called count l answers (Done 0) (after .output) (after .scratch) stored
     unfolding listAnswer listAnswersAfter unless _then_ whenDone
@@ -178,8 +178,8 @@ module _ (count : ℕ) (l : Lent) (answers : List ℕ) where
         ran .stored-is ∙ ap (λ (d : List ℕ). sets d 0 (toldFrom l 0 count)) clear ∙ all-told l count answers few room in
         let done =
         called (Done 0) stored
-        (rw (fits, le-leb count mostJobs few, le-leb (numbersOf count) (length (l .jobs)) numbers) refl)
-        (rw (fits, le-leb count mostJobs few, le-leb (numbersOf count) (length (l .jobs)) numbers) put) in (
+        (rw (fits, le-leb count mostJobs few, le-leb (jobNumbers count) (length (l .jobs)) numbers) refl)
+        (rw (fits, le-leb count mostJobs few, le-leb (jobNumbers count) (length (l .jobs)) numbers) put) in (
           done .0,
           (
             ap (λ (t : Trays). t .output) (ran .left-is) ∙ done .1 .0,

@@ -21,7 +21,7 @@ abbrev pub lent : List ℕ → List ℕ → List ℕ → List ℕ → List ℕ �
 lent jobs tickets source output scratch =
     record { jobs = jobs; tickets = tickets; source = source; output = output; scratch = scratch }
 
--- what jobs write to
+-- what jobs write to: the output tray and the scratch
 pub record Trays : Type 0 where
   pub output : List ℕ
   pub scratch : List ℕ
@@ -30,8 +30,8 @@ abbrev pub trays : List ℕ → List ℕ → Trays
 trays output scratch = record { output = output; scratch = scratch }
 
 -- a single call: its answer, and the trays that it leaves
-unfoldable pub answered : List ℕ → List ℕ → Listed → Trays → Answer
-answered tickets source job t =
+unfoldable pub singleAnswer : List ℕ → List ℕ → Listed → Trays → Answer
+singleAnswer tickets source job t =
     answer (ticketOf tickets job) (job .places) (lengths source (t .output) (t .scratch))
 
 unfoldable pub afterJob : List ℕ → List ℕ → Listed → Trays → Trays
@@ -48,4 +48,4 @@ traysAfter l (suc k) = afterJob (l .tickets) (l .source) (listedAt (l .jobs) k) 
 
 -- the answer to job k
 unfoldable pub answerAt : Lent → ℕ → Answer
-answerAt l k = answered (l .tickets) (l .source) (listedAt (l .jobs) k) (traysAfter l k)
+answerAt l k = singleAnswer (l .tickets) (l .source) (listedAt (l .jobs) k) (traysAfter l k)

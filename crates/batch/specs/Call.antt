@@ -21,8 +21,8 @@ abbrev pub mostJobs : ℕ
 mostJobs = 256
 
 -- the numbers of so many jobs, and of 256 answers
-abbrev pub numbersOf : ℕ → ℕ
-numbersOf count = 8 * count
+abbrev pub jobNumbers : ℕ → ℕ
+jobNumbers count = 8 * count
 
 abbrev pub answersNeeded : ℕ
 answersNeeded = 768
@@ -32,7 +32,7 @@ unfoldable pub listAnswer : ℕ → ℕ → ℕ → Answer
 listAnswer count numbers answers =
     unless (leb answersNeeded answers) (Later NumbersTooFew) answersNeeded
     then unless (leb count mostJobs) (Later TooManyJobs) 0
-    then unless (leb (numbersOf count) numbers) (Later NumbersTooFew) (numbersOf count)
+    then unless (leb (jobNumbers count) numbers) (Later NumbersTooFew) (jobNumbers count)
 
 abbrev pub answerOf : ℕ → Lent → List ℕ → Answer
 answerOf count l answers = listAnswer count (length (l .jobs)) (length answers)
@@ -63,6 +63,6 @@ unfoldable pub listAnswersAfter : ℕ → Lent → List ℕ → List ℕ
 listAnswersAfter count l answers =
     cond (leb answersNeeded (length answers))
     (cond (leb count mostJobs)
-    (cond (leb (numbersOf count) (length (l .jobs))) (answersOf l count ++ drop answersNeeded answers) answers)
+    (cond (leb (jobNumbers count) (length (l .jobs))) (answersOf l count ++ drop answersNeeded answers) answers)
     (cleared answersNeeded answers))
     answers

@@ -19,7 +19,7 @@ use Rattle.ticket.specs.Laws.{Bytes}
 use Rattle.tray.specs.Written.{cleared}
 use Rattle.batch.specs.Listed.{ticketOf}
 use Rattle.batch.specs.Batch.{Lent}
-use Rattle.batch.specs.Call.{mostJobs, numbersOf, answersNeeded, listAnswer, toldFrom, answersOf}
+use Rattle.batch.specs.Call.{mostJobs, jobNumbers, answersNeeded, listAnswer, toldFrom, answersOf}
 use Rattle.batch.specs.Call.{listAnswersAfter}
 use Rattle.batch.specs.declared.Listed.{Listed}
 
@@ -27,7 +27,7 @@ use Rattle.batch.specs.declared.Listed.{Listed}
 
 pub record Runs (count numbers answers : ℕ) : Type 0 where
   pub few : count ≤ mostJobs
-  pub there : numbersOf count ≤ numbers
+  pub there : jobNumbers count ≤ numbers
   pub room : answersNeeded ≤ answers
 
 pub list-runs :
@@ -36,14 +36,14 @@ unfolding listAnswer
 list-runs count numbers answers done =
     let first = unless (leb answersNeeded answers) (Later NumbersTooFew) answersNeeded in
     let second = unless (leb count mostJobs) (Later TooManyJobs) 0 in
-    let third = unless (leb (numbersOf count) numbers) (Later NumbersTooFew) (numbersOf count) in
+    let third = unless (leb (jobNumbers count) numbers) (Later NumbersTooFew) (jobNumbers count) in
     let from-first = then-done first (second then third) done in
     let from-second = then-done second third (from-first .1) in
     record {
       few = leb-true _ _ (unless-done (leb count mostJobs) (Later TooManyJobs) 0 (from-second .0));
       there =
           leb-true _ _
-          (unless-done (leb (numbersOf count) numbers) (Later NumbersTooFew) (numbersOf count) (from-second .1));
+          (unless-done (leb (jobNumbers count) numbers) (Later NumbersTooFew) (jobNumbers count) (from-second .1));
       room = leb-true _ _ (unless-done (leb answersNeeded answers) (Later NumbersTooFew) answersNeeded (from-first .0));
     }
 
@@ -107,12 +107,12 @@ module _ (count : ℕ) (l : Lent) (answers : List ℕ) where
   pub answers-at-18 : numberOf (listAnswer count (length (l .jobs)) (length answers)) ≡ 18
       → listAnswersAfter count l answers ≡ cleared answersNeeded answers
   unfolding listAnswer listAnswersAfter
-  answers-at-18 e = at-18 _ _ _ (numbersOf count) _ _ _ e
+  answers-at-18 e = at-18 _ _ _ (jobNumbers count) _ _ _ e
 
   pub answers-at-100 : numberOf (listAnswer count (length (l .jobs)) (length answers)) ≡ 100
       → listAnswersAfter count l answers ≡ answers
   unfolding listAnswer listAnswersAfter
-  answers-at-100 e = at-100 _ _ _ (numbersOf count) _ _ _ e
+  answers-at-100 e = at-100 _ _ _ (jobNumbers count) _ _ _ e
 
   pub answers-run : isDone (listAnswer count (length (l .jobs)) (length answers)) ≡ true
       → listAnswersAfter count l answers ≡ answersOf l count ++ drop answersNeeded answers
@@ -122,7 +122,7 @@ module _ (count : ℕ) (l : Lent) (answers : List ℕ) where
       rw (
         le-leb answersNeeded (length answers) (runs .room),
         le-leb count mostJobs (runs .few),
-        le-leb (numbersOf count) (length (l .jobs)) (runs .there),
+        le-leb (jobNumbers count) (length (l .jobs)) (runs .there),
       )
       refl
 
@@ -143,7 +143,7 @@ pub answers-either :
     → P (listAnswersAfter count l answers)
 unfolding listAnswersAfter
 answers-either P count l answers kept zeros told =
-    either P (leb answersNeeded (length answers)) (leb count mostJobs) (leb (numbersOf count) (length (l .jobs)))
+    either P (leb answersNeeded (length answers)) (leb count mostJobs) (leb (jobNumbers count) (length (l .jobs)))
     (answersOf l count ++ drop answersNeeded answers) (cleared answersNeeded answers) answers kept
     (λ room. zeros (leb-true _ _ room))
     (λ room few there. told (record { few = leb-true _ _ few; there = leb-true _ _ there; room = leb-true _ _ room }))

@@ -5,13 +5,13 @@ use mathlib.Core.List.{List}
 use Prim.Native.Nat.{ℕ}
 use lib.Seq.{sets}
 use Rattle.refusal.specs.declared.Answer.{Answer}
-use Rattle.batch.specs.Batch.{Lent, Trays, answered, afterJob, traysAfter}
+use Rattle.batch.specs.Batch.{Lent, Trays, singleAnswer, afterJob, traysAfter}
 use Rattle.batch.specs.Call.{toldFrom}
 use Rattle.batch.specs.declared.Listed.{Listed}
 
 -- one job of a list, run on the trays as they are
 pub record RanOne (tickets source : List ℕ) (job : Listed) (before after : Trays) (given : Answer) : Type 0 where
-  pub answered-is : given ≡ answered tickets source job before
+  pub answered-is : given ≡ singleAnswer tickets source job before
   pub left-is : after ≡ afterJob tickets source job before
 
 -- all jobs of a list, their answers stored from the first number on

@@ -1,7 +1,8 @@
 // A whole tray in one call: a list of up to 256 jobs, run in its order on one source tray, one output tray and one
 // scratch. The definitions stand in specs/: Listed (a job of the list, and its ticket), Batch (the trays after so many
-// jobs, and each job's answer: a fold of what a single job answers and leaves), Answers (the numbers that come back),
-// Judging (why a whole list is refused). The list and its answers are rows of numbers.
+// jobs, and each job's answer: a fold of what a single job answers and leaves), Call (the whole call: why a list is
+// refused, and what every buffer holds afterwards), Promises (what the functions here promise one another), and Laws,
+// what follows. The list and its answers are rows of numbers.
 //
 //     run       the list, with no condition on its callers: run
 //     list      a job of the list as its numbers say, and its ticket

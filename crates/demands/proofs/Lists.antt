@@ -18,7 +18,7 @@ use Rattle.placement.specs.declared.Placements.{Placements}
 use Rattle.job.specs.Job.{finished, jobScratch, answer, lengths}
 use Rattle.job.specs.Laws.{output-pixel}
 use Rattle.batch.specs.Listed.{placesIn, ticketIn, listedAt}
-use Rattle.batch.specs.Batch.{Lent, lent, Trays, trays, answered, afterJob, traysAfter, answerAt}
+use Rattle.batch.specs.Batch.{Lent, lent, Trays, trays, singleAnswer, afterJob, traysAfter, answerAt}
 use Rattle.batch.specs.Call.{answerOf, listOutputAfter, listScratchAfter}
 use Rattle.batch.specs.Laws.{ticket-bytes}
 use Rattle.demands.specs.Same.{SameLengths}
@@ -28,7 +28,8 @@ use Rattle.demands.specs.Lists.{ListOutputLength, ListScratchKept, ListS
 use Rattle.demands.specs.Lists.{ListLaterWins, ListPage, ListHidden, ListReach, ListPageAlone, ListExact}
 use Rattle.demands.proofs.Same.{same-answer}
 use Rattle.demands.proofs.Untouched.{when-either, not-done, output-kept-if, output-length, scratch-kept-if}
-use Rattle.demands.proofs.Untouched.{scratch-length, scratch-zero, scratch-stays-zero, refused-output, refused-scratch}
+use Rattle.demands.proofs.Untouched.{scratch-length, scratch-zero, scratch-stays-zero, refused-output}
+use Rattle.demands.proofs.Untouched.{refused-scratch}
 use Rattle.demands.proofs.Reach.{reach, page-alone, hidden-white}
 use Rattle.demands.proofs.ExactJob.{exact-job-reach}
 
@@ -41,7 +42,7 @@ done-with (Refused refusal at) done = absurd (false≢true done)
 
 -- the trays keep their lengths
 module _ (l : Lent) where
-  pub output-long : (k : ℕ) → length (traysAfter l k .output) ≡ length (l .output)
+  output-long : (k : ℕ) → length (traysAfter l k .output) ≡ length (l .output)
   unfolding traysAfter afterJob
   output-long zero = refl
   output-long (suc k) =
@@ -49,7 +50,7 @@ module _ (l : Lent) where
       (traysAfter l k .scratch)
       ∙ output-long k
 
-  pub scratch-long : (k : ℕ) → length (traysAfter l k .scratch) ≡ length (l .scratch)
+  scratch-long : (k : ℕ) → length (traysAfter l k .scratch) ≡ length (l .scratch)
   unfolding traysAfter afterJob
   scratch-long zero = refl
   scratch-long (suc k) =
@@ -58,7 +59,7 @@ module _ (l : Lent) where
       ∙ scratch-long k
 
 pub list-single : ListSingle
-unfolding answerAt answered
+unfolding answerAt singleAnswer
 list-single l k =
     same-answer (ticketIn (l .jobs) (l .tickets) k) (placesIn (l .jobs) k) (l .source) (l .source)
     (traysAfter l k .output) (l .output) (traysAfter l k .scratch) (l .scratch)
@@ -80,12 +81,12 @@ module _ (l : Lent) (k : ℕ) where
   work = workIn (answerAt l k)
 
   done-single : JobDone l k → answer ticket places (lengths (l .source) (found .output) (found .scratch)) ≡ Done work
-  unfolding answerAt answered
+  unfolding answerAt singleAnswer
   done-single done = done-with (answerAt l k) done
 
   single-done : (w : ℕ) → answer ticket places (lengths (l .source) (found .output) (found .scratch)) ≡ Done w
       → JobDone l k
-  unfolding answerAt answered isDone
+  unfolding answerAt singleAnswer isDone
   single-done w e = ap isDone e
 
 pub list-page : ListPage
@@ -101,7 +102,7 @@ list-hidden l k c r done c-in r-in hid =
     (done-single l k done) c r c-in r-in hid
 
 pub list-refused-job : ListRefusedJob
-unfolding traysAfter afterJob answerAt answered
+unfolding traysAfter afterJob answerAt singleAnswer
 list-refused-job l k refused =
     ap₂ trays
     (refused-output (ticket l k) (places l k) (l .source) (found l k .output) (found l k .scratch) refused)
@@ -129,7 +130,7 @@ module _ (jobs tickets source source′ out out′ scratch scratch′ : List ℕ
       }
 
   pub answer-same : answerAt one k ≡ answerAt two k
-  unfolding answerAt answered
+  unfolding answerAt singleAnswer
   answer-same =
       same-answer (ticketIn jobs tickets k) (placesIn jobs k) source source′ (found one k .output) (found two k .output)
       (found one k .scratch) (found two k .scratch) found-lengths
@@ -183,7 +184,7 @@ list-exact jobs tickets source out scratch k c r bytes done operation clear c′
 -- ---- the trays after so many jobs
 
 module _ (l : Lent) where
-  pub trays-output-kept :
+  trays-output-kept :
       (n i : ℕ) → ((k : ℕ) → k < n → JobDone l k → OffPage (outputPage (placesIn (l .jobs) k)) i)
       → getD (traysAfter l n .output) i 0 ≡ getD (l .output) i 0
   unfolding traysAfter afterJob
@@ -193,7 +194,7 @@ module _ (l : Lent) where
       (λ w e. off n (omega arith) (single-done l n w e))
       ∙ trays-output-kept n i (λ k below done. off k (omega arith) done)
 
-  pub trays-scratch-kept :
+  trays-scratch-kept :
       (n i : ℕ)
       → ((k : ℕ) → k < n → JobDone l k
       → jobScratch (shown (ticketIn (l .jobs) (l .tickets) k)) (placesIn (l .jobs) k) ≤ i)
@@ -208,7 +209,7 @@ module _ (l : Lent) where
   -- what job k used is zero after it, and stays so
   module _ (k i : ℕ) (done : JobDone l k)
       (below : i < jobScratch (shown (ticketIn (l .jobs) (l .tickets) k)) (placesIn (l .jobs) k)) where
-    pub trays-scratch-zero : (more : ℕ) → getD (traysAfter l (suc k + more) .scratch) i 0 ≡ 0
+    trays-scratch-zero : (more : ℕ) → getD (traysAfter l (suc k + more) .scratch) i 0 ≡ 0
     unfolding traysAfter afterJob
     trays-scratch-zero zero =
         subst (λ (n : ℕ). getD (traysAfter l n .scratch) i 0 ≡ 0) (sym (add-zero (suc k)))
@@ -226,7 +227,7 @@ module _ (l : Lent) where
     abbrev byte : ℕ
     byte = byteOf (outputPage (placesIn (l .jobs) k)) c r
 
-    pub trays-later :
+    trays-later :
         (more : ℕ)
         → ((j : ℕ) → k < j → j < suc k + more → JobDone l j → OffPage (outputPage (placesIn (l .jobs) j)) byte)
         → getD (traysAfter l (suc k + more) .output) byte 0

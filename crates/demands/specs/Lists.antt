@@ -40,7 +40,7 @@ ListSingle =
     → answerAt l k
     ≡ answer (ticketIn (l .jobs) (l .tickets) k) (placesIn (l .jobs) k) (lengths (l .source) (l .output) (l .scratch))
 
--- so the numbers that come back depend on no byte of the trays.
+-- so the numbers that come back depend on no byte of the source tray, of the output tray or of the scratch.
 abbrev pub ListSame : Type 0
 ListSame =
     (count : ℕ) (jobs tickets source source′ out out′ scratch scratch′ answers : List ℕ)

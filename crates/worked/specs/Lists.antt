@@ -40,7 +40,7 @@ use Rattle.job.specs.Judging.{judgeSides, judgeSource, judgeOutput, judgeScratc
 use Rattle.job.specs.Judging.{judgePlaces}
 use Rattle.job.specs.Job.{finishedWith, jobWork, jobScratch, answer, outputAfter, scratchAfter}
 use Rattle.batch.specs.Listed.{spotAt, listedAt, ticketOf}
-use Rattle.batch.specs.Batch.{Lent, lent, answered, afterJob, traysAfter, answerAt}
+use Rattle.batch.specs.Batch.{Lent, lent, singleAnswer, afterJob, traysAfter, answerAt}
 use Rattle.batch.specs.Call.{listAnswer, answerOf, listOutputAfter, listScratchAfter, toldFrom, answersOf}
 use Rattle.batch.specs.Call.{listAnswersAfter}
 
@@ -58,8 +58,8 @@ abbrev jobs : List ℕ
 jobs = job 0 30 0 0 (job 18446744073709551615 31 0 3 (job 0 30 3 2 []))
 
 -- on old bytes: 200 in the output, 100 in a scratch of a byte more than is needed
-abbrev trays : Lent
-trays = lent jobs ticket (9 ∷ 1 ∷ 5 ∷ 4 ∷ 8 ∷ 2 ∷ []) (replicate 6 200) (replicate 16 100)
+abbrev given : Lent
+given = lent jobs ticket (9 ∷ 1 ∷ 5 ∷ 4 ∷ 8 ∷ 2 ∷ []) (replicate 6 200) (replicate 16 100)
 
 record Ran : Type 0 where
   whole : Answer
@@ -71,10 +71,10 @@ record Ran : Type 0 where
 abbrev ran : ℕ → ℕ → Ran
 ran count room =
     record {
-      whole = answerOf count trays (replicate room 7);
-      output = listOutputAfter count trays (replicate room 7);
-      scratch = listScratchAfter count trays (replicate room 7);
-      answers = listAnswersAfter count trays (replicate room 7);
+      whole = answerOf count given (replicate room 7);
+      output = listOutputAfter count given (replicate room 7);
+      scratch = listScratchAfter count given (replicate room 7);
+      answers = listAnswersAfter count given (replicate room 7);
     }
 
 -- a list that is refused as a whole: no tray is written
@@ -116,6 +116,6 @@ unfolding shallow steep majorOf minorOf
     judgeSides judgeSource judgeOutput judgeScratch judgePageBoxesFrom judgePageBoxes judgePlaces
     finishedWith jobWork jobScratch
     answer outputAfter scratchAfter
-    spotAt listedAt ticketOf answered afterJob traysAfter answerAt
+    spotAt listedAt ticketOf singleAnswer afterJob traysAfter answerAt
     listAnswer listOutputAfter listScratchAfter toldFrom answersOf listAnswersAfter
 worked-lists = refl

@@ -22,7 +22,8 @@ returns-2 : tie.Need-returns-2
 returns-2 c =
     let read = c .before .before .before .before .before in
     let start = read .before .before .before .before in
-    long-enough (now (start .args .ticket)) (now (start .args .numbers)) (read .read .result) _ _ (omega arith) (read .read .ensures) (c .outcome-of2 .ensures) (c .before .before .before .put-ticket .ensures)
+    long-enough (now (start .args .ticket)) (now (start .args .numbers)) (read .read .result) _ _ (omega arith)
+    (read .read .ensures) (c .outcome-of2 .ensures) (c .before .before .before .put-ticket .ensures)
 
 pub sotrugla-read-ticket-spec : {M : Type 1} → statement M
 sotrugla-read-ticket-spec =
