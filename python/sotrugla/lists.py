@@ -9,15 +9,15 @@ import typing
 
 from .lending import Lent, lent, lent_to_write, see_apart
 from .library import Outcome, answer
-from .refusals import HEAD, Refused, judged, refused
+from .refusals import HEAD, MOST_JOBS, Refused, judged, refused
 from .tickets import Ticket, bytes_of
 from .trays import Page, Places, Spot, scratch_needed
 
 if typing.TYPE_CHECKING:
     from _typeshed import ReadableBuffer, WriteableBuffer
 
-# The most jobs of a list, each of which has an answer, and the numbers of an answer.
-_JOBS, _ANSWER_NUMBERS = 256, 3
+# The numbers of an answer.
+_ANSWER_NUMBERS = 3
 
 
 class TrayJob(typing.NamedTuple):
@@ -84,7 +84,11 @@ def _places(job: TrayJob, number: int) -> Places:
 
 def _order(job: TrayJob, number: int) -> typing.ContextManager[Lent]:
     """The job's ticket, lent as run lends it: no buffer that is written may overlap it."""
-    return lent(bytes_of(job.ticket), f"job {number}: the ticket")
+    try:
+        encoded = bytes_of(job.ticket)
+    except (OverflowError, TypeError) as error:  # Its words name the field alone.
+        raise type(error)(f"job {number}: {error}") from None
+    return lent(encoded, f"job {number}: the ticket")
 
 
 def _answers(orders: list[Lent], places: list[Places], trays: list[int]) -> list[Outcome]:
@@ -93,7 +97,7 @@ def _answers(orders: list[Lent], places: list[Places], trays: list[int]) -> list
     listed = zip(starts, orders, places)
     numbers = [number for start, order, place in listed for number in (start, order.length, *place)]
     tickets = b"".join(order.first(order.length) for order in orders)
-    jobs, answers = (ctypes.c_uint64 * len(numbers))(*numbers), (Outcome * _JOBS)()
-    given = (jobs, len(numbers), tickets, len(tickets), *trays, answers, _JOBS * _ANSWER_NUMBERS)
+    jobs, answers = (ctypes.c_uint64 * len(numbers))(*numbers), (Outcome * MOST_JOBS)()
+    given = (jobs, len(numbers), tickets, len(tickets), *trays, answers, MOST_JOBS * _ANSWER_NUMBERS)
     judged(answer("sotrugla_run_tray", len(orders), *given))
     return answers[: len(orders)]

@@ -47,8 +47,9 @@ PLACEMENT_SENTENCES = (
 # A file has sides and no placement.
 FILE_SENTENCE = "a side of the file's page is not 1 to 8192"
 
-# The limits of placements that these sentences tell.
+# The limits of placements, and of a list, that these sentences tell.
 LARGEST_SIDE, WIDEST_STRIDE = 8192, 16384
+MOST_JOBS = 256
 
 
 class Placements(typing.NamedTuple):

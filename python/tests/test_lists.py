@@ -124,8 +124,16 @@ class Slips(unittest.TestCase):
         self.slipped(TypeError, sentence, job=good._replace(spot=SPOT._replace(stride=3.0)))
         sentence = "job 1: the ticket is of type str, not a buffer of bytes"
         self.slipped(TypeError, sentence, job=good._replace(ticket="P5"))
-        sentence = "dx is 40000, which has no place in 16 bits with a sign"
+
+    def test_tickets_that_cannot_be_encoded(self):
+        good, boxed = TrayJob(ticket(), ALONE, SPOT), ticket()
+        sentence = "job 1: dx is 40000, which has no place in 16 bits with a sign"
         self.slipped(OverflowError, sentence, job=good._replace(ticket=ticket(dx=40000)))
+        sentence = "job 1: length is 2.0, not a whole number"
+        self.slipped(TypeError, sentence, job=good._replace(ticket=ticket(length=2.0)))
+        boxed.boxes.append((1, 2, 3))
+        sentence = "job 1: box 0 is (1, 2, 3), not (left, top, width, height)"
+        self.slipped(TypeError, sentence, job=good._replace(ticket=boxed))
 
     def test_buffers(self):
         self.slipped(TypeError, "the source is of type str, not a buffer of bytes", source="P5")

@@ -123,7 +123,8 @@ def _add_tray(words: Any) -> None:
     add = options.add_argument
     add("list", metavar="LIST", help="the list's file; - is standard input")
     add("tray", metavar="TRAY", help="the source tray's file")
-    add("-o", metavar="OUT", dest="out", required=True, help="the output tray's file: written in place, or made")
+    out = "the output tray's file: one that exists is written in place, a new one is made as long as TRAY"
+    add("-o", metavar="OUT", dest="out", required=True, help=out)
     add("--json", action="store_true", help="print JSON in place of the table")
     _add_help(options)
 

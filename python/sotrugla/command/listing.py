@@ -69,7 +69,12 @@ def _rows(content: bytes) -> List[Mapping[str, Any]]:
         text = content.decode("utf-8-sig")
     except UnicodeDecodeError:
         raise Misused("it is no text in UTF-8") from None
-    return _json_rows(text) if text.lstrip().startswith("[") else _csv_rows(text)
+    first = text.lstrip()[:1]
+    if not first:
+        raise Misused("it is empty; a list without jobs is [], or a head line alone")
+    if first == "{":
+        raise Misused("it begins with {; a list in JSON is an array, and begins with [")
+    return _json_rows(text) if first == "[" else _csv_rows(text)
 
 
 def _json_rows(text: str) -> List[Mapping[str, Any]]:
@@ -89,7 +94,7 @@ def _json_rows(text: str) -> List[Mapping[str, Any]]:
 def _csv_rows(text: str) -> List[Mapping[str, Any]]:
     lines = csv.reader(io.StringIO(text, newline=""), skipinitialspace=True, strict=True)
     try:
-        head, *rows = [cells for cells in lines if cells] or [[]]
+        head, *rows = [cells for cells in lines if cells]
     except csv.Error as error:
         raise Misused(f"line {lines.line_num}: {error}") from None
     _see_columns("head line", head)

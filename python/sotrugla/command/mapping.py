@@ -41,13 +41,16 @@ def to_read(name: str) -> Iterator[Tray]:
 @contextlib.contextmanager
 def to_write(name: str, length: int, spans: Sequence[Span], like: str) -> Iterator[Tray]:
     """The tray of a file, to be written at these spans. One that exists is written where it stands. A new one has so
-    many bytes, zero at first, may be read and written by those who may read and write the file that it is like, and
-    gets its name when all of it is on the disk. Raises Fault."""
+    many bytes, zero at first, may be read and written by its owner and by those others who may read and write the file
+    that it is like, and gets its name when all of it is on the disk, unless another has it by then. Raises Fault."""
     new = not os.path.exists(name)
+    if new and os.path.islink(name):
+        # What it should name may be on a disk that is not there now; a tray made elsewhere would be missed.
+        raise Fault(name, "cannot be written: it is a link to nothing")
     if not new:
         _see_ordinary(name, "written")
     try:
-        with files.replaced(name, like) if new else open(name, "r+b") as file:
+        with files.made(name, like) if new else open(name, "r+b") as file:
             if new:
                 file.truncate(length)
             _reserve(file, spans)

@@ -1,4 +1,4 @@
-"""Where each page goes, decided before anything is done, so that no input is replaced and no page is lost."""
+"""Where each page goes, decided before anything is done, so that no input is written over and no page is lost."""
 
 from __future__ import annotations
 
@@ -50,7 +50,7 @@ def see_apart(inputs: Sequence[str], outputs: Sequence[str]) -> None:
         if os.path.realpath(name) in written:
             raise Misused(f"two outputs have the name {name}")
         if name != STANDARD and _identity(name) in read:
-            raise Misused(f"{name} is an input, and the output would replace it")
+            raise Misused(f"{name} is an input, and the output would be written over it")
         written.add(os.path.realpath(name))
 
 

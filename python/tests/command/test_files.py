@@ -66,6 +66,18 @@ class Whole(CommandCase):
         self.assertEqual(name, f"{folder}/page")
         self.assertEqual((self.folder / "page").read_bytes(), PAGE)
 
+    def test_a_new_one_is_on_the_disk_before_its_name(self):
+        done, sync, link, folder = [], os.fsync, os.link, self.folder
+        with mock.patch("os.fsync", lambda file: done.append("fsync") or sync(file)):
+            with mock.patch("os.link", lambda *names: done.append(names) or link(*names)):
+                with files.made(self.at("tray"), like=self.put("page")) as file:
+                    file.write(PAGE)
+        self.assertEqual(done[0], "fsync")
+        self.assertRegex(done[1][0], rf"^{folder}/\.tray\.[0-9a-f]+\.part$")
+        self.assertEqual(done[1][1:], (f"{folder}/tray",))
+        self.assertEqual((self.folder / "tray").read_bytes(), PAGE)
+        self.assertEqual(self.names(), ["page", "tray"])
+
     def test_no_part_is_left_by_an_error(self):
         self.put("page", b"old")
         for step in ("os.fsync", "os.replace"):
@@ -74,6 +86,18 @@ class Whole(CommandCase):
                     files.write(self.at("page"), PAGE)
                 self.assertEqual(self.names(), ["page"])
                 self.assertEqual((self.folder / "page").read_bytes(), b"old")
+
+    def test_an_interrupt_just_behind_the_opening(self):
+        """One that comes during a call is heard when the call is done, and its answer is lost."""
+        known = os.open
+
+        def opened(*given):
+            os.close(known(*given))
+            raise KeyboardInterrupt
+
+        with mock.patch("os.open", opened), self.assertRaises(KeyboardInterrupt):
+            files.write(self.at("page"), PAGE)
+        self.assertEqual(self.names(), [])
 
     def test_an_interrupt_just_behind_the_renaming(self):
         known = os.replace

@@ -21,6 +21,12 @@ class Help(CommandCase):
             self.assertLessEqual(max(map(len, lines)), 80, words)
             self.assertIn("examples:", lines)
 
+    def test_help_of_tray(self):
+        """It says how long a tray gets that is not there yet."""
+        written = self.run_apart("tray", "--help")[1].decode()
+        told = "one that exists is written in place, a new one is made as long as TRAY --json"
+        self.assertIn(told, " ".join(written.split()))
+
     def test_help_of_show(self):
         status, written, said = self.run_apart("show", "--help")
         self.assertEqual((status, said), (0, ""))

@@ -113,9 +113,9 @@ class Lost(CommandCase):
         os.symlink(self.folder, self.at("around"))
         for name in ("page", "link", "same", "around/page"):
             out = self.at(name)
-            self.misused(self.page, "-o", out, sentence=f"{out} is an input, and the output would replace it")
+            self.misused(self.page, "-o", out, sentence=f"{out} is an input, and the output would be written over it")
         for out in (str(self.folder), self.at("around")):
-            sentence = f"{out}/page is an input, and the output would replace it"
+            sentence = f"{out}/page is an input, and the output would be written over it"
             self.misused(self.put("more/other"), self.page, "-o", out, sentence=sentence)
 
     def test_standard_input_twice(self):
@@ -126,15 +126,15 @@ class Lost(CommandCase):
         with open(self.page, "rb") as given:
             status, _, said = self.run_apart("close", "-", "-o", self.page, *ALONG, stdin=given, given=None)
         self.assertEqual(status, 2)
-        self.assertIn(f"{self.page} is an input, and the output would replace it", said)
+        self.assertIn(f"{self.page} is an input, and the output would be written over it", said)
 
     def test_a_ticket_that_replaces_or_is_replaced(self):
         out = self.at("out")
-        sentence = f"{self.page} is an input, and the output would replace it"
+        sentence = f"{self.page} is an input, and the output would be written over it"
         self.misused(self.page, "-o", out, "--write-ticket", self.page, sentence=sentence)
         self.misused(self.page, "-o", out, "--write-ticket", out, sentence=f"two outputs have the name {out}")
         ticket = self.put("ticket")
-        sentence = f"{ticket} is an input, and the output would replace it"
+        sentence = f"{ticket} is an input, and the output would be written over it"
         self.misused(self.page, "-o", ticket, "--ticket", ticket, sentence=sentence)
 
     def test_several_pages_without_a_folder(self):

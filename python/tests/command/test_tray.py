@@ -1,6 +1,7 @@
 """A list of jobs on one tray: both formats of a list, the table and JSON, trays that are made and trays in use, lists
 that are wrong, and runs that end before their time."""
 
+import contextlib
 import csv
 import errno
 import io
@@ -60,6 +61,11 @@ def as_csv(jobs, columns=COLUMNS):
     lines.writeheader()
     lines.writerows(jobs)
     return written.getvalue().encode()
+
+
+def failure(number):
+    """What a system answers, by its number."""
+    return OSError(number, os.strerror(number))
 
 
 def single(jobs, output):
@@ -187,6 +193,18 @@ class Answers(TrayCase):
         self.assertEqual(self.content("used"), b"in use")
         self.assertEqual(self.names(), sorted([*self.before, "list", "used"]))
 
+    def test_more_than_256_jobs_are_not_looked_at(self):
+        """Not their tickets, nor the trays: 18 is answered before."""
+        for ticket in ("none", "a\0b", "\ud800"):
+            name = self.put("list", as_json([job()] * 299 + [job(ticket=ticket)]))
+            wanted = 1, f"{name}: refused 18 at 0: the list has more than 256 jobs\n"
+            for tray, out in (("tray", "out"), ("none", "out"), ("tray", "close.ticket")):
+                with mock.patch.object(files, "content", side_effect=files.content) as opened:
+                    self.assertEqual(self.run_here("tray", name, self.at(tray), "-o", self.at(out)), wanted)
+                self.assertEqual([call.args[0] for call in opened.call_args_list], [name])
+        self.assertEqual(self.content("close.ticket"), CLOSING)
+        self.assertEqual(self.names(), sorted([*self.before, "list"]))
+
 
 class Trays(TrayCase):
     def test_a_tray_in_use_is_written_in_place(self):
@@ -213,6 +231,17 @@ class Trays(TrayCase):
         self.ran(JOBS, status=1)
         self.assertEqual(os.stat(self.at("out")).st_mode & 0o777, 0o600)
         self.assertEqual(self.names(), sorted([*self.before, "out"]))
+
+    def test_a_new_tray_can_be_written_again(self):
+        """Its owner may write it where the source is only to be read; the bits of all others are the source's."""
+        self.addCleanup(os.umask, os.umask(0o022))
+        for source, made in ((0o444, 0o644), (0o440, 0o640), (0o400, 0o600), (0o755, 0o644)):
+            os.chmod(self.at("tray"), source)
+            self.ran(JOBS, status=1)
+            self.assertEqual(oct(os.stat(self.at("out")).st_mode & 0o777), oct(made))
+            self.ran(JOBS, status=1)
+            self.assertEqual(oct(os.stat(self.at("out")).st_mode & 0o777), oct(made))
+            os.remove(self.at("out"))
 
     def test_an_empty_tray(self):
         self.put("tray", b"")
@@ -253,12 +282,114 @@ class Trays(TrayCase):
         self.assertEqual(self.content("used"), bytes(len(TRAY)))
         self.assertEqual(self.names(), sorted([*self.before, "list", "used"]))
 
+    def test_no_room_is_kept_for_refused_places(self):
+        """They may name all of a tray, which may have more holes than the disk has room."""
+        for name in ("tray", "used"):
+            with open(self.at(name), "wb") as tray:
+                tray.truncate(2**20)
+        wide, wider = dict(source_stride=8192, output_stride=8192), dict(source_stride=16384, output_stride=16384)
+        kept = [(job(), (3, 32)), (job(width=8192, height=2, **wide), (3, 16384)), (job(**wider), (3, 3 * 16384 + 5))]
+        refused = [
+            job(width=2**14, height=1, **wider),
+            job(width=2**14, height=0, **wider),
+            job(width=1, height=8193),
+            job(width=0),
+            job(height=0),
+            job(output_stride=4),
+            job(output_stride=16385),
+            job(source_stride=4),
+            job(source_stride=16385),
+            job(output_offset=2**20 - 31),
+        ]
+        name = self.put("list", as_json([*refused, *(listed for listed, _ in kept)]))
+        for out in ("out", "used"):
+            with mock.patch("os.posix_fallocate") as reserved, mock.patch.object(files, "put") as told:
+                self.assertEqual(self.run_here("tray", name, self.at("tray"), "-o", self.at(out)), (1, ""))
+            self.assertEqual([call.args[1:] for call in reserved.call_args_list], [span for _, span in kept])
+            self.assertTrue(told.call_args.args[1].endswith(b"\n3 of 13 pages finished\n"))
+
     def test_a_disk_that_keeps_no_room(self):
         name, out = self.put("list", as_csv(JOBS)), self.at("out")
         none = OSError(errno.EOPNOTSUPP, os.strerror(errno.EOPNOTSUPP))
         with mock.patch("os.posix_fallocate", side_effect=none), mock.patch.object(files, "put"):
             self.assertEqual(self.run_here("tray", name, self.at("tray"), "-o", out), (1, ""))
         self.assertEqual(self.content("out"), single(JOBS, bytearray(len(TRAY)))[0])
+
+
+class Named(TrayCase):
+    """A new tray gets its name only where nothing has it by then."""
+
+    def setUp(self):
+        super().setUp()
+        self.words = ("tray", self.put("list", as_csv(JOBS)), self.at("tray"), "-o", self.at("out"))
+
+    def ended(self, **patches):
+        """The exit status and what is said, where some functions of the system do something else."""
+        with contextlib.ExitStack() as stack:
+            for name, done in patches.items():
+                stack.enter_context(mock.patch(f"os.{name}", side_effect=done))
+            stack.enter_context(mock.patch.object(files, "put"))
+            return self.run_here(*self.words)
+
+    def appeared(self, appear, **patches):
+        """The end of a run, during which something appears in the output's place."""
+        run_tray = sotrugla.run_tray
+
+        def run(*given):
+            appear()
+            return run_tray(*given)
+
+        with mock.patch("sotrugla.run_tray", run):
+            return self.ended(**patches)
+
+    def test_what_appears_during_a_run_stays(self):
+        out, why = self.at("out"), "a file of this name appeared meanwhile, and nothing of it was changed"
+        for patches in ({}, {"link": failure(errno.EPERM)}):
+            for appear, is_there, remove in (
+                (lambda: self.put("out", b"another's"), lambda: self.content("out") == b"another's", os.remove),
+                (lambda: os.mkdir(out), lambda: os.path.isdir(out), os.rmdir),
+                (lambda: os.symlink("none", out), lambda: os.readlink(out) == "none", os.remove),
+            ):
+                self.assertEqual(self.appeared(appear, **patches), (1, f"{out}: cannot be written: {why}\n"))
+                self.assertTrue(is_there())
+                self.assertEqual(self.names(), sorted([*self.before, "list", "out"]))
+                remove(out)
+
+    def test_a_disk_without_hard_links(self):
+        for number in (errno.EPERM, errno.EOPNOTSUPP, errno.ENOSYS, errno.EMLINK):
+            self.assertEqual(self.ended(link=failure(number)), (1, ""))
+            self.assertEqual(self.content("out"), single(JOBS, bytearray(len(TRAY)))[0])
+            self.assertEqual(self.names(), sorted([*self.before, "list", "out"]))
+            os.remove(self.at("out"))
+
+    def test_a_name_that_cannot_be_given(self):
+        said = f"{self.at('out')}: cannot be written: No space left on device\n"
+        self.assertEqual(self.ended(link=failure(errno.ENOSPC)), (1, said))
+        self.assertEqual(self.ended(link=failure(errno.EPERM), rename=failure(errno.ENOSPC)), (1, said))
+        self.assertEqual(self.names(), sorted([*self.before, "list"]))
+
+    def test_an_interrupt_just_behind_the_naming(self):
+        link = os.link
+
+        def interrupted(*names):
+            link(*names)
+            raise KeyboardInterrupt
+
+        self.assertEqual(self.ended(link=interrupted), (130, ""))
+        self.assertEqual(self.content("out"), single(JOBS, bytearray(len(TRAY)))[0])
+        self.assertEqual(self.names(), sorted([*self.before, "list", "out"]))
+
+    def test_a_link_to_nothing_is_refused(self):
+        """Neither is it replaced, nor is what it names made; and it is known before a page is cleaned."""
+        said = f"{self.at('out')}: cannot be written: it is a link to nothing\n"
+        for target in ("none", "none/deeper", "out"):
+            os.symlink(target, self.at("out"))
+            with mock.patch("sotrugla.run_tray") as run:
+                self.assertEqual(self.ended(), (1, said))
+            run.assert_not_called()
+            self.assertEqual(os.readlink(self.at("out")), target)
+            self.assertEqual(self.names(), sorted([*self.before, "list", "out"]))
+            os.remove(self.at("out"))
 
 
 class Wrong(TrayCase):
@@ -283,7 +414,10 @@ class Wrong(TrayCase):
         self.wrong(as_json([{**job(), "pages": 1}]), f"job 1: {unknown}")
         self.wrong(as_csv([], [*COLUMNS, "page"]), "head line: page stands there twice\n")
         self.wrong(as_json([job()])[:-2] + b', "height": 3}]', "job 1: height stands there twice\n")
-        self.wrong(b"", "head line: page is missing\n")
+
+    def test_nothing(self):
+        for content in (b"", b" \n\t\r\n", b"\xef\xbb\xbf"):
+            self.wrong(content, "it is empty; a list without jobs is [], or a head line alone\n")
 
     def test_lines(self):
         lines = as_csv([job(), job()])
@@ -299,6 +433,14 @@ class Wrong(TrayCase):
         self.wrong(b"[1" + b"0" * 5000 + b"]", "")
         self.wrong(b'[3, {"page": 1}]', "job 1: it is 3, not an object\n")
         self.wrong(b'[["page"]]', 'job 1: it is ["page"], not an object\n')
+
+    def test_json_that_is_no_array(self):
+        for content in (json.dumps(job()), json.dumps({"jobs": [job()]}), f"\n {json.dumps(job(), indent=2)}", "{"):
+            self.wrong(content.encode(), "it begins with {; a list in JSON is an array, and begins with [\n")
+
+    def test_more_than_256_jobs(self):
+        """They are refused by their number where the list is right."""
+        self.wrong(as_json([job()] * 299 + [job(width=-1)]), "job 300: width is -1, not a whole number")
 
     def test_numbers(self):
         not_so = "not a whole number from 0, below 2^64\n"
@@ -353,7 +495,7 @@ class Wrong(TrayCase):
         for folder in (f"{out}/", str(self.folder)):
             cases.append(((name, tray, folder), f"{folder} is a folder, and the output tray a file"))
         for taken in (tray, self.at("same"), name, self.at("close.ticket")):
-            cases.append(((name, tray, taken), f"{taken} is an input, and the output would replace it"))
+            cases.append(((name, tray, taken), f"{taken} is an input, and the output would be written over it"))
         for (listed, source, written), sentence in cases:
             status, said = self.run_here("tray", listed, source, "-o", written)
             self.assertEqual((status, said.splitlines()[-1]), (2, f"sotrugla tray: error: {sentence}"))
