@@ -1,4 +1,2 @@
-pub mod Within
-pub mod Tickets
 pub mod Stores
 pub mod Running

@@ -17,12 +17,13 @@ use Rattle.refusal.specs.declared.Later.the-variants.{TooManyJobs, NumbersTooFe
 use Rattle.refusal.specs.declared.Refusal.the-variants.{Later}
 use Rattle.tray.specs.Written.{cleared}
 use Rattle.job.specs.Job.{lengths, answer, outputAfter, scratchAfter}
-use Rattle.batch.specs.Listed.{listedAt, ticketOf}
+use Rattle.listing.specs.Listed.{listedAt, ticketOf}
+use Rattle.listing.specs.Numbers.{jobNumbers, answersNeeded, told}
+use Rattle.listing.specs.declared.Listed.{Listed}
 use Rattle.batch.specs.Batch.{Lent, Trays, trays, singleAnswer, afterJob, traysAfter, answerAt}
-use Rattle.batch.specs.Call.{mostJobs, jobNumbers, answersNeeded, told, toldFrom, answersOf, listAnswer}
+use Rattle.batch.specs.Call.{mostJobs, toldFrom, answersOf, listAnswer}
 use Rattle.batch.specs.Call.{listOutputAfter, listScratchAfter, listAnswersAfter}
 use Rattle.batch.specs.Promises.{RanOne, RanJobs}
-use Rattle.batch.specs.declared.Listed.{Listed}
 use Rattle.batch.proofs.Stores.{told-more, all-told}
 
 -- ---- one job

@@ -6,8 +6,8 @@ use mathlib.Core.List.{List}
 use Prim.Native.Nat.{ℕ, zero, suc}
 use Rattle.refusal.specs.declared.Answer.{Answer}
 use Rattle.job.specs.Job.{lengths, answer, outputAfter, scratchAfter}
-use Rattle.batch.specs.Listed.{listedAt, ticketOf}
-use Rattle.batch.specs.declared.Listed.{Listed}
+use Rattle.listing.specs.Listed.{listedAt, ticketOf}
+use Rattle.listing.specs.declared.Listed.{Listed}
 
 -- what the jobs of a list are lent: their numbers, the buffer of tickets, and the trays as they are before the first
 pub record Lent : Type 0 where

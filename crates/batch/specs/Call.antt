@@ -1,31 +1,25 @@
 -- A whole tray in one call: what is answered, and what every buffer holds afterwards. Document 02, wish 3: "a refused
 -- job is answered and the rest go on; 256 answers come back, zero past the list and at 18." "Refusals: 18, more than
--- 256 jobs, for the whole list before any job, place 0." The answers are a row of numbers, three for each job: that,
--- and what becomes of a buffer of numbers that is too short, is decided here.
+-- 256 jobs, for the whole list before any job, place 0." What becomes of a buffer of numbers that is too short is
+-- decided here.
 -- Assumes nothing.
 use mathlib.Core.Bool.{cond}
-use mathlib.Core.List.{List, [], _∷_, _++_}
+use mathlib.Core.List.{List, [], _++_}
 use Prim.Native.Nat.{ℕ, zero, suc, _-_, _*_}
 use lib.Dec.{leb}
 use lib.ListN.{length, replicate, drop}
-use Rattle.refusal.specs.Answer.{numberOf, placeOf, workIn, whenDone}
+use Rattle.refusal.specs.Answer.{whenDone}
 use Rattle.refusal.specs.Chain.{unless, _then_}
 use Rattle.refusal.specs.declared.Answer.{Answer}
 use Rattle.refusal.specs.declared.Later.the-variants.{TooManyJobs, NumbersTooFew}
 use Rattle.refusal.specs.declared.Refusal.the-variants.{Later}
 use Rattle.tray.specs.Written.{cleared}
+use Rattle.listing.specs.Numbers.{jobNumbers, answersNeeded, told}
 use Rattle.batch.specs.Batch.{Lent, traysAfter, answerAt}
 
 -- "up to 256 jobs"
 abbrev pub mostJobs : ℕ
 mostJobs = 256
-
--- the numbers of so many jobs, and of 256 answers
-abbrev pub jobNumbers : ℕ → ℕ
-jobNumbers count = 8 * count
-
-abbrev pub answersNeeded : ℕ
-answersNeeded = 768
 
 -- the answer for the whole list, by the lengths of the two buffers of numbers; the work stands with each job
 unfoldable pub listAnswer : ℕ → ℕ → ℕ → Answer
@@ -43,10 +37,6 @@ listOutputAfter count l answers = whenDone (answerOf count l answers) (traysAfte
 
 unfoldable pub listScratchAfter : ℕ → Lent → List ℕ → List ℕ
 listScratchAfter count l answers = whenDone (answerOf count l answers) (traysAfter l count .scratch) (l .scratch)
-
--- an answer as three numbers: refusal, place, work
-abbrev pub told : Answer → List ℕ → List ℕ
-told a rest = numberOf a ∷ placeOf a ∷ workIn a ∷ rest
 
 -- the answers of n jobs, from job k on
 unfoldable pub toldFrom : Lent → ℕ → ℕ → List ℕ

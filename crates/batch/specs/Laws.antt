@@ -17,11 +17,12 @@ use Rattle.refusal.specs.declared.Later.the-variants.{TooManyJobs, NumbersTooFe
 use Rattle.refusal.specs.declared.Refusal.the-variants.{Later}
 use Rattle.ticket.specs.Laws.{Bytes}
 use Rattle.tray.specs.Written.{cleared}
-use Rattle.batch.specs.Listed.{ticketOf}
+use Rattle.listing.specs.Listed.{ticketOf}
+use Rattle.listing.specs.Numbers.{jobNumbers, answersNeeded}
+use Rattle.listing.specs.declared.Listed.{Listed}
 use Rattle.batch.specs.Batch.{Lent}
-use Rattle.batch.specs.Call.{mostJobs, jobNumbers, answersNeeded, listAnswer, toldFrom, answersOf}
+use Rattle.batch.specs.Call.{mostJobs, listAnswer, toldFrom, answersOf}
 use Rattle.batch.specs.Call.{listAnswersAfter}
-use Rattle.batch.specs.declared.Listed.{Listed}
 
 -- ---- a list that is run
 

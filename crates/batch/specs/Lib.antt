@@ -1,4 +1,3 @@
-pub mod Listed
 pub mod Batch
 pub mod Call
 pub mod Promises

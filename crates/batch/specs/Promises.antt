@@ -5,9 +5,9 @@ use mathlib.Core.List.{List}
 use Prim.Native.Nat.{ℕ}
 use lib.Seq.{sets}
 use Rattle.refusal.specs.declared.Answer.{Answer}
+use Rattle.listing.specs.declared.Listed.{Listed}
 use Rattle.batch.specs.Batch.{Lent, Trays, singleAnswer, afterJob, traysAfter}
 use Rattle.batch.specs.Call.{toldFrom}
-use Rattle.batch.specs.declared.Listed.{Listed}
 
 -- one job of a list, run on the trays as they are
 pub record RanOne (tickets source : List ℕ) (job : Listed) (before after : Trays) (given : Answer) : Type 0 where

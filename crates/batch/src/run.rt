@@ -2,12 +2,12 @@
 ghost use mathlib.Core.Path.{_≡_};
 ghost use Prim.Native.Nat.{_+_, _*_, _≤_};
 ghost use lib.ListN.{length};
-ghost use Rattle.batch.specs.Listed.{listedAt};
+ghost use Rattle.listing.specs.Listed.{listedAt};
 ghost use Rattle.batch.specs.Batch.{lent, trays};
 ghost use Rattle.batch.specs.Call.{listAnswer, listOutputAfter, listScratchAfter, listAnswersAfter};
 ghost use Rattle.batch.specs.Promises.{RanOne, RanJobs};
-use super::answers;
-use super::list;
+use listing::answers;
+use listing::list;
 use refusal::Answer;
 use refusal::Later;
 use refusal::Refusal;

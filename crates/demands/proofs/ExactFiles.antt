@@ -14,9 +14,9 @@ use Rattle.ticket.specs.declared.Ticket.{Ticket}
 use Rattle.placement.specs.Placement.{byteOf, pixelIn, longestSide, Placed, sourcePage}
 use Rattle.placement.specs.Laws.{byte-from}
 use Rattle.placement.specs.declared.Placement.{Placement}
+use Rattle.heading.specs.Writing.{headerOf, fileOf}
 use Rattle.pgm.specs.ReadBack.{ReadsBack, read-back, header-back}
 use Rattle.pgm.specs.Reading.{judged}
-use Rattle.pgm.specs.Writing.{headerOf, fileOf}
 use Rattle.pgm.specs.declared.Header.{Header}
 use Rattle.job.specs.Job.{finishedWith}
 use Rattle.file.specs.FileJob.{header, filePage}

@@ -12,7 +12,7 @@ use Rattle.placement.specs.declared.Placements.{Placements}
 use Rattle.job.specs.Order.{white}
 use Rattle.job.specs.Job.{finished, answer, lengths, outputAfter}
 use Rattle.job.specs.Laws.{finished-stands, finished-allowed, output-pixel}
-use Rattle.job.specs.declared.Lengths.{Lengths}
+use Rattle.judging.specs.declared.Lengths.{Lengths}
 use Rattle.demands.specs.Exact.{ExactJobReach}
 use Rattle.demands.proofs.Same.{same-lengths}
 use Rattle.demands.proofs.Exact.{exact-reach}

@@ -9,17 +9,19 @@ use Prim.Native.Nat.{ℕ, zero, suc, _<_}
 use native.Mathlib.Omega.{arith}
 use borrow.Author.Tests.{ltb-true}
 use lib.Dec.{ltb}
-use Rattle.geometry.specs.Vector.{shallow, steep, majorOf, minorOf}
+use Rattle.vectors.specs.Vector.{shallow, steep, majorOf, minorOf}
 use Rattle.geometry.specs.Line.{nearest, D, shift, period, profile, place, landing, stepOf, majorAt}
 use Rattle.geometry.specs.Number.{within, inPage, count, behind, ahead}
 use Rattle.runs.specs.Block.{rightward, leftward, resulting}
 use Rattle.runs.specs.Scratch.{total}
 use Rattle.refusal.specs.Chain.{unless, _then_}
 use Rattle.refusal.specs.declared.Answer.the-variants.{Done}
-use Rattle.ticket.specs.Fields.{byteAt, numberAt, signed16, signedAt, operationIn, lineIn, dxIn, dyIn, lengthIn}
-use Rattle.ticket.specs.Fields.{originIn, phaseIn, fieldEnd, boxAt, boxesFrom, boxesIn}
+use Rattle.fields.specs.Fields.{byteAt, numberAt, signed16, signedAt, operationIn, lineIn, dxIn, dyIn, lengthIn}
+use Rattle.fields.specs.Fields.{originIn, phaseIn, fieldEnd}
+use Rattle.fields.specs.Vectors.{divided, coprime, vectorAllowed, phaseAllowed}
+use Rattle.ticket.specs.Boxes.{boxAt, boxesFrom, boxesIn}
 use Rattle.ticket.specs.Judging.{judgeHead, judgeSize, judgeField, operationKnown, lineKnown, isPeriodic}
-use Rattle.ticket.specs.Judging.{divided, coprime, vectorAllowed, lengthAllowed, originAllowed, phaseAllowed}
+use Rattle.ticket.specs.Judging.{lengthAllowed, originAllowed}
 use Rattle.ticket.specs.Judging.{judgeOperation, judgeLine, judgeVector, judgeLength, judgeOrigin, judgePhase, judgeBox}
 use Rattle.ticket.specs.Judging.{judged}
 use Rattle.ticket.specs.Judging as ticket
@@ -32,11 +34,13 @@ use Rattle.tray.specs.Turned.{downOf, acrossOf}
 use Rattle.filter.specs.Seen.{runsSteep}
 use Rattle.filter.specs.Filters.{dilationBack}
 use Rattle.filter.specs.Work.{charged, chargedAt, passWork, erosionWork, dilationWork, workOf}
-use Rattle.job.specs.Order.{lineOf, segmentOf, pagesOf}
-use Rattle.job.specs.Judging.{judgeSides, judgeSource, judgeOutput, judgeScratch, judgePageBoxesFrom, judgePageBoxes}
-use Rattle.job.specs.Judging.{judgePlaces}
+use Rattle.job.specs.Order.{lineOf, segmentOf}
+use Rattle.judging.specs.Pages.{pagesOf}
+use Rattle.judging.specs.Judging.{judgeSides, judgeSource, judgeOutput, judgeScratch, judgePageBoxesFrom}
+use Rattle.judging.specs.Judging.{judgePageBoxes}
+use Rattle.judging.specs.Judging.{judgePlaces}
 use Rattle.job.specs.Job.{jobWork, answer}
-use Rattle.job.specs.declared.Lengths.{Lengths}
+use Rattle.judging.specs.declared.Lengths.{Lengths}
 use Rattle.demands.specs.Near.{Near}
 use Rattle.demands.specs.Exact.{Clear, JobMatters}
 use Rattle.demands.proofs.ExactJob.{exact-job-reach}

@@ -16,9 +16,10 @@ use Rattle.placement.specs.declared.Placement.{Placement}
 use Rattle.tray.specs.Laws.{cleared-above, cleared-below, length-cleared}
 use Rattle.pgm.specs.Reading.{judged}
 use Rattle.pgm.specs.declared.Header.{Header}
-use Rattle.job.specs.Job.{finishedWith, jobWork, jobScratch, lengths}
-use Rattle.job.specs.Judging.{judgePlaces}
-use Rattle.job.specs.declared.Lengths.{Lengths}
+use Rattle.job.specs.Job.{finishedWith, jobWork, lengths}
+use Rattle.judging.specs.Pages.{jobScratch}
+use Rattle.judging.specs.Judging.{judgePlaces}
+use Rattle.judging.specs.declared.Lengths.{Lengths}
 use Rattle.file.specs.FileJob.{header, filePage, fileAnswer, delivery, fileOutputAfter, fileScratchAfter}
 use Rattle.file.specs.Laws as files
 use Rattle.file.specs.Places.{placesOf, fileLength}

@@ -6,7 +6,7 @@ use mathlib.Core.List.{List, map}
 use Prim.Native.Nat.{ℕ, _<_}
 use native.Mathlib.Omega.{arith}
 use lib.IntN.{natAbs}
-use Rattle.geometry.specs.Vector.{shallow, steep}
+use Rattle.vectors.specs.Vector.{shallow, steep}
 use Rattle.geometry.specs.Drift.{mirrored}
 use Rattle.geometry.specs.Flip.{flipped}
 use Rattle.geometry.specs.Laws.{mirrored-below, flipped-runs, flipped-steep, flipped-twice, flipped-level}
@@ -15,21 +15,22 @@ use Rattle.geometry.specs.declared.Line.{Line}
 use Rattle.refusal.specs.Chain.{_then_, then-on}
 use Rattle.refusal.specs.declared.Answer.{Answer}
 use Rattle.refusal.specs.declared.Answer.the-variants.{Done}
-use Rattle.ticket.specs.Judging.{judged, isPeriodic, vectorAllowed, phaseAllowed}
+use Rattle.fields.specs.Vectors.{vectorAllowed, phaseAllowed}
+use Rattle.ticket.specs.Judging.{judged, isPeriodic}
 use Rattle.ticket.specs.Laws.{Allowed, vector-passes, phase-passes, vector-by-sizes, phase-by-sizes}
 use Rattle.ticket.specs.Reading.{shown}
 use Rattle.ticket.specs.declared.HiddenBox.{HiddenBox}
 use Rattle.ticket.specs.declared.Ticket.{Ticket}
 use Rattle.boxes.specs.Boxes.{boxesOf}
 use Rattle.placement.specs.Placement.{sourcePage}
-use Rattle.placement.specs.declared.Placements.{Placements}
 use Rattle.filter.specs.Seen.{runsSteep}
 use Rattle.job.specs.Order.{lineOf, white}
-use Rattle.job.specs.Judging.{judgePlaces}
+use Rattle.judging.specs.Judging.{judgePlaces}
 use Rattle.job.specs.Job.{finishedWith, jobWork, answer, lengths}
-use Rattle.job.specs.Laws.{pages-by-operation, places-alike, finished-job, finished-stands, finished-allowed}
+use Rattle.judging.specs.Laws.{pages-by-operation, places-alike}
+use Rattle.job.specs.Laws.{finished-job, finished-stands, finished-allowed}
 use Rattle.job.specs.Laws.{output-pixel}
-use Rattle.job.specs.declared.Lengths.{Lengths}
+use Rattle.judging.specs.declared.Lengths.{Lengths}
 use Rattle.file.specs.FileJob.{header, filePage}
 use Rattle.file.specs.Laws as files
 use Rattle.file.specs.Places.{placesOf}

@@ -7,7 +7,7 @@ use mathlib.Core.Option.{Option, none, some}
 use Prim.Native.Nat.{ℕ, suc, _+_, _-_, _<_}
 use native.Mathlib.Omega.{arith}
 use lib.Dec.{leb, eqb}
-use Rattle.geometry.specs.Vector.{shallow, steep}
+use Rattle.vectors.specs.Vector.{shallow, steep}
 use Rattle.geometry.specs.Line.{landing, stepOf, majorAt}
 use Rattle.geometry.specs.Number.{inPage}
 use Rattle.geometry.specs.Drift.{mirrored}

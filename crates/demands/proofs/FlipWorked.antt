@@ -4,14 +4,16 @@
 use mathlib.Core.Path.{_≡_, refl}
 use mathlib.Core.List.{List, [], _∷_, _++_, map}
 use Prim.Native.Nat.{ℕ}
-use Rattle.geometry.specs.Vector.{shallow, steep}
+use Rattle.vectors.specs.Vector.{shallow, steep}
 use Rattle.geometry.specs.Flip.{flipped}
 use Rattle.refusal.specs.Chain.{unless, _then_}
 use Rattle.refusal.specs.declared.Answer.the-variants.{Done}
-use Rattle.ticket.specs.Fields.{byteAt, numberAt, signed16, signedAt, operationIn, lineIn, dxIn, dyIn, lengthIn}
-use Rattle.ticket.specs.Fields.{originIn, phaseIn, fieldEnd, boxAt, boxesFrom, boxesIn}
+use Rattle.fields.specs.Fields.{byteAt, numberAt, signed16, signedAt, operationIn, lineIn, dxIn, dyIn, lengthIn}
+use Rattle.fields.specs.Fields.{originIn, phaseIn, fieldEnd}
+use Rattle.fields.specs.Vectors.{divided, coprime, vectorAllowed, phaseAllowed}
+use Rattle.ticket.specs.Boxes.{boxAt, boxesFrom, boxesIn}
 use Rattle.ticket.specs.Judging.{judgeHead, judgeSize, judgeField, operationKnown, lineKnown, isPeriodic}
-use Rattle.ticket.specs.Judging.{divided, coprime, vectorAllowed, lengthAllowed, originAllowed, phaseAllowed}
+use Rattle.ticket.specs.Judging.{lengthAllowed, originAllowed}
 use Rattle.ticket.specs.Judging.{judgeOperation, judgeLine, judgeVector, judgeLength, judgeOrigin, judgePhase, judgeBox}
 use Rattle.ticket.specs.Judging.{judgeBoxes, judged}
 use Rattle.ticket.specs.Reading.{boxPlaces, shown}

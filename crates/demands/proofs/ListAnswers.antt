@@ -10,8 +10,9 @@ use lib.ListN.{List·getD-append}
 use lib.Seq.{getD-append-add, getD-drop}
 use Rattle.refusal.specs.Answer.{numberOf, placeOf, workIn}
 use Rattle.tray.specs.Laws.{cleared-below, cleared-above, length-cleared}
+use Rattle.listing.specs.Numbers.{answersNeeded, told}
 use Rattle.batch.specs.Batch.{Lent, lent, answerAt}
-use Rattle.batch.specs.Call.{answersNeeded, told, toldFrom, answersOf, listAnswersAfter}
+use Rattle.batch.specs.Call.{toldFrom, answersOf, listAnswersAfter}
 use Rattle.batch.specs.Laws.{list-runs, told-count, answers-at-18, answers-at-100, answers-run, answers-either}
 use Rattle.demands.specs.Lists.{ListRun, ListSame, ListTold, ListZeroPast, ListZeroAt18, ListUntoldAt100}
 use Rattle.demands.specs.Lists.{ListAnswersKept, ListAnswersLength}

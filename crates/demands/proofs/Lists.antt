@@ -15,9 +15,10 @@ use Rattle.refusal.specs.declared.Answer.the-variants.{Done, Refused}
 use Rattle.ticket.specs.Reading.{shown}
 use Rattle.placement.specs.Placement.{pixelIn, byteOf, sourcePage, outputPage}
 use Rattle.placement.specs.declared.Placements.{Placements}
-use Rattle.job.specs.Job.{finished, jobScratch, answer, lengths}
+use Rattle.job.specs.Job.{finished, answer, lengths}
+use Rattle.judging.specs.Pages.{jobScratch}
 use Rattle.job.specs.Laws.{output-pixel}
-use Rattle.batch.specs.Listed.{placesIn, ticketIn, listedAt}
+use Rattle.listing.specs.Listed.{placesIn, ticketIn, listedAt}
 use Rattle.batch.specs.Batch.{Lent, lent, Trays, trays, singleAnswer, afterJob, traysAfter, answerAt}
 use Rattle.batch.specs.Call.{answerOf, listOutputAfter, listScratchAfter}
 use Rattle.batch.specs.Laws.{ticket-bytes}

@@ -3,7 +3,7 @@
 use mathlib.Core.Path.{_≡_, ap}
 use Rattle.refusal.specs.Answer.{numberOf, placeOf, workIn}
 use Rattle.job.specs.Job.{answer, lengths}
-use Rattle.job.specs.declared.Lengths.{Lengths}
+use Rattle.judging.specs.declared.Lengths.{Lengths}
 use Rattle.demands.specs.Same.{SameAnswer, SameNumber, SamePlace, SameWork}
 
 pub same-lengths :

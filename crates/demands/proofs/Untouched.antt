@@ -19,7 +19,8 @@ use Rattle.placement.specs.declared.Placement.{Placement}
 use Rattle.placement.specs.declared.Placements.{Placements}
 use Rattle.tray.specs.Written.{cleared}
 use Rattle.tray.specs.Laws.{written-outside, length-written, cleared-above, cleared-below, length-cleared}
-use Rattle.job.specs.Job.{finished, jobScratch, answer, lengths, outputAfter, scratchAfter}
+use Rattle.job.specs.Job.{finished, answer, lengths, outputAfter, scratchAfter}
+use Rattle.judging.specs.Pages.{jobScratch}
 use Rattle.job.specs.Laws.{finished-stands}
 use Rattle.demands.specs.Untouched.{OffPage, OutputKept, OutputLength, ScratchKept, ScratchLength, ScratchZero}
 use Rattle.demands.specs.Untouched.{RefusedOutput, RefusedScratch, RefusedWork}

@@ -19,7 +19,7 @@ use Rattle.placement.specs.declared.Placement.{Placement}
 use Rattle.placement.specs.declared.Placements.{Placements}
 use Rattle.job.specs.Order.{lineOf}
 use Rattle.job.specs.Job.{finishedWith, answer, outputAfter}
-use Rattle.job.specs.declared.Lengths.{Lengths}
+use Rattle.judging.specs.declared.Lengths.{Lengths}
 use Rattle.demands.specs.Near.{stepAt, onPage, FewerSteps, Near}
 
 -- "operations 3 and 4"

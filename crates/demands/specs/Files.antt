@@ -15,11 +15,12 @@ use Rattle.ticket.specs.declared.Ticket.{Ticket}
 use Rattle.boxes.specs.Boxes.{hidden, boxesOf}
 use Rattle.placement.specs.Placement.{byteOf, pixelIn, longestSide, sourcePage, outputPage}
 use Rattle.placement.specs.declared.Placement.{Placement}
+use Rattle.heading.specs.Writing.{headerOf}
 use Rattle.pgm.specs.Reading.{judged, reading}
-use Rattle.pgm.specs.Writing.{headerOf}
 use Rattle.pgm.specs.declared.Header.{Header}
-use Rattle.job.specs.Job.{jobScratch, lengths}
-use Rattle.job.specs.declared.Lengths.{Lengths}
+use Rattle.judging.specs.Pages.{jobScratch}
+use Rattle.job.specs.Job.{lengths}
+use Rattle.judging.specs.declared.Lengths.{Lengths}
 use Rattle.file.specs.FileJob.{header, filePage, fileAnswer, delivery, fileOutputAfter, fileScratchAfter}
 use Rattle.file.specs.Places.{headerFor, placesOf}
 use Rattle.demands.specs.Same.{SameLengths}

@@ -8,12 +8,13 @@ use mathlib.Core.List.{List, map}
 use Prim.Native.Nat.{ℕ, _+_, _-_, _<_}
 use lib.IntN.{pos}
 use lib.ListN.{length, getD}
-use Rattle.geometry.specs.Vector.{minorOf}
+use Rattle.vectors.specs.Vector.{minorOf}
 use Rattle.geometry.specs.Drift.{mirrored}
 use Rattle.geometry.specs.Flip.{flipped}
 use Rattle.refusal.specs.Answer.{isDone}
 use Rattle.refusal.specs.declared.Answer.the-variants.{Done}
-use Rattle.ticket.specs.Judging.{judged, isPeriodic, vectorAllowed, phaseAllowed}
+use Rattle.fields.specs.Vectors.{vectorAllowed, phaseAllowed}
+use Rattle.ticket.specs.Judging.{judged, isPeriodic}
 use Rattle.ticket.specs.Laws.{Allowed, Bytes}
 use Rattle.ticket.specs.Reading.{shown}
 use Rattle.ticket.specs.declared.HiddenBox.{HiddenBox}
@@ -25,7 +26,7 @@ use Rattle.placement.specs.declared.Placements.{Placements}
 use Rattle.filter.specs.Seen.{runsSteep}
 use Rattle.job.specs.Order.{lineOf}
 use Rattle.job.specs.Job.{finishedWith, jobWork, answer, lengths, outputAfter}
-use Rattle.job.specs.declared.Lengths.{Lengths}
+use Rattle.judging.specs.declared.Lengths.{Lengths}
 use Rattle.file.specs.FileJob.{header, fileAnswer, fileOutputAfter}
 use Rattle.demands.specs.Files.{sourceOf, outputOf}
 

@@ -13,10 +13,12 @@ use Rattle.ticket.specs.Laws.{Bytes}
 use Rattle.ticket.specs.Reading.{shown}
 use Rattle.boxes.specs.Boxes.{hidden, boxesOf}
 use Rattle.placement.specs.Placement.{pixelIn, byteOf, sourcePage, outputPage}
-use Rattle.job.specs.Job.{finished, jobScratch, answer, lengths}
-use Rattle.batch.specs.Listed.{placesIn, ticketIn}
+use Rattle.job.specs.Job.{finished, answer, lengths}
+use Rattle.judging.specs.Pages.{jobScratch}
+use Rattle.listing.specs.Listed.{placesIn, ticketIn}
+use Rattle.listing.specs.Numbers.{answersNeeded}
 use Rattle.batch.specs.Batch.{Lent, lent, traysAfter, answerAt}
-use Rattle.batch.specs.Call.{answersNeeded, answerOf, listOutputAfter, listScratchAfter, listAnswersAfter}
+use Rattle.batch.specs.Call.{answerOf, listOutputAfter, listScratchAfter, listAnswersAfter}
 use Rattle.demands.specs.Same.{SameLengths}
 use Rattle.demands.specs.Untouched.{OffPage}
 use Rattle.demands.specs.Near.{Near}

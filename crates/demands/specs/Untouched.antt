@@ -12,7 +12,8 @@ use Rattle.ticket.specs.Reading.{shown}
 use Rattle.placement.specs.Placement.{byteOf, outputPage}
 use Rattle.placement.specs.declared.Placement.{Placement}
 use Rattle.placement.specs.declared.Placements.{Placements}
-use Rattle.job.specs.Job.{jobScratch, answer, lengths, outputAfter, scratchAfter}
+use Rattle.judging.specs.Pages.{jobScratch}
+use Rattle.job.specs.Job.{answer, lengths, outputAfter, scratchAfter}
 
 -- byte i of a tray is the byte of no pixel of the page
 unfoldable pub OffPage : Placement → ℕ → Type 0

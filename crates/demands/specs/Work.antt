@@ -11,7 +11,7 @@ use Rattle.ticket.specs.declared.Ticket.{Ticket}
 use Rattle.placement.specs.declared.Placements.{Placements}
 use Rattle.filter.specs.Work.{passWork}
 use Rattle.job.specs.Job.{jobWork, answer}
-use Rattle.job.specs.declared.Lengths.{Lengths}
+use Rattle.judging.specs.declared.Lengths.{Lengths}
 
 -- a pass over a page with sides H and W: each pixel is charged three comparisons at most
 abbrev pub PassWork : Type 0

@@ -9,7 +9,7 @@ use Rattle.refusal.specs.declared.Answer.{Answer}
 use Rattle.placement.specs.declared.Placements.{Placements}
 use Rattle.pgm.specs.Reading.{judged, headerIn, noHeader, shownAt, reading}
 use Rattle.pgm.specs.declared.Reading.{Reading}
-use Rattle.job.specs.Judging.{judgeSides}
+use Rattle.judging.specs.Judging.{judgeSides}
 use Rattle.file.specs.Places.{placesOf}
 use Rattle.file.specs.Reading.{judgedAlone, readingAlone}
 

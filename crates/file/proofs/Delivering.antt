@@ -13,12 +13,12 @@ use Rattle.placement.specs.Placement.{Placed, sourcePage, outputPage}
 use Rattle.placement.specs.declared.Placements.{Placements}
 use Rattle.tray.specs.Laws.{length-written}
 use Rattle.tray.specs.Written.{written}
-use Rattle.pgm.specs.Writing.{headerOf}
+use Rattle.heading.specs.Writing.{headerOf}
 use Rattle.pgm.specs.declared.Header.{Header}
 use Rattle.job.specs.Finishing.{RanRead}
 use Rattle.job.specs.Job.{finishedWith, lengths}
-use Rattle.job.specs.Judging.{judgePlaces}
-use Rattle.job.specs.Laws.{stands}
+use Rattle.judging.specs.Judging.{judgePlaces}
+use Rattle.judging.specs.Laws.{stands}
 use Rattle.file.specs.Delivering.{answerFor, Delivered}
 use Rattle.file.specs.Laws.{rows-end}
 use Rattle.file.specs.Places.{headerFor, placesOf, fileLength, headed}

@@ -16,7 +16,8 @@ use Rattle.tray.specs.Written.{written, cleared}
 use Rattle.pgm.specs.Reading as pgm
 use Rattle.pgm.specs.declared.Header.{Header}
 use Rattle.pgm.specs.declared.Reading as files
-use Rattle.job.specs.Job.{jobScratch, lengths}
+use Rattle.judging.specs.Pages.{jobScratch}
+use Rattle.job.specs.Job.{lengths}
 use Rattle.file.specs.Delivering.{answerFor, Delivered, RanFile}
 use Rattle.file.specs.FileJob.{header, filePage, fileAnswer, delivery, fileOutputAfter, fileScratchAfter}
 use Rattle.file.specs.Places.{headerFor, placesOf, fileLength, headed}

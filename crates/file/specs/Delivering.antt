@@ -13,9 +13,10 @@ use Rattle.placement.specs.Placement.{sourcePage, outputPage}
 use Rattle.tray.specs.Written.{written, cleared}
 use Rattle.pgm.specs.Reading.{judged, headerIn}
 use Rattle.pgm.specs.declared.Header.{Header}
-use Rattle.job.specs.Judging.{judgePlaces}
-use Rattle.job.specs.Job.{finishedWith, jobWork, jobScratch, lengths}
-use Rattle.job.specs.declared.Lengths.{Lengths}
+use Rattle.judging.specs.Judging.{judgePlaces}
+use Rattle.job.specs.Job.{finishedWith, jobWork, lengths}
+use Rattle.judging.specs.Pages.{jobScratch}
+use Rattle.judging.specs.declared.Lengths.{Lengths}
 use Rattle.file.specs.Places.{headerFor, placesOf, fileLength, headed}
 use Rattle.file.specs.FileJob.{filePage}
 use Rattle.file.specs.declared.Delivery.{Delivery}

@@ -21,17 +21,18 @@ use Rattle.placement.specs.declared.Placement.{Placement}
 use Rattle.tray.specs.Laws as tray
 use Rattle.tray.specs.Written.{written, cleared}
 use Rattle.filter.specs.Within.{page-within}
+use Rattle.heading.specs.Writing.{fileOf}
 use Rattle.pgm.specs.Header.{widthIn, heightIn, maximumIn, pixelsStart}
 use Rattle.pgm.specs.Laws.{Read, read-good, told-small}
 use Rattle.pgm.specs.ReadBack.{ReadsBack, read-back, header-back}
 use Rattle.pgm.specs.Reading as pgm
-use Rattle.pgm.specs.Writing.{fileOf}
 use Rattle.pgm.specs.declared.Header.{Header}
-use Rattle.job.specs.Job.{finishedWith, jobWork, jobScratch, lengths}
-use Rattle.job.specs.Judging.{judgePlaces}
-use Rattle.job.specs.Laws.{Stands, stands}
+use Rattle.job.specs.Job.{finishedWith, jobWork, lengths}
+use Rattle.judging.specs.Pages.{jobScratch}
+use Rattle.judging.specs.Judging.{judgePlaces}
+use Rattle.judging.specs.Laws.{Stands, stands}
 use Rattle.job.specs.Order.{recipeOf}
-use Rattle.job.specs.declared.Lengths.{Lengths}
+use Rattle.judging.specs.declared.Lengths.{Lengths}
 use Rattle.file.specs.FileJob.{header, filePage, fileAnswer, fileOutputAfter, fileScratchAfter}
 use Rattle.file.specs.Places.{headerFor, placesOf, fileLength, headed}
 

@@ -4,7 +4,7 @@ use Prim.Native.Nat.{ℕ, _+_, _*_}
 use mathlib.Core.List.{List, _++_}
 use lib.ListN.{length, drop}
 use Rattle.placement.specs.declared.Placements.{Placements}
-use Rattle.pgm.specs.Writing.{headerOf}
+use Rattle.heading.specs.Writing.{headerOf}
 use Rattle.pgm.specs.declared.Header.{Header}
 
 -- the header that is written: the sides and the maximum that were read

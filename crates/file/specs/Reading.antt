@@ -6,7 +6,7 @@ use Rattle.refusal.specs.Chain.{_then_}
 use Rattle.refusal.specs.declared.Answer.{Answer}
 use Rattle.pgm.specs.Reading.{judged, headerIn, shownAt}
 use Rattle.pgm.specs.declared.Reading.{Reading}
-use Rattle.job.specs.Judging.{judgeSides}
+use Rattle.judging.specs.Judging.{judgeSides}
 use Rattle.file.specs.Places.{placesOf}
 
 -- "a zero side has no pixels and meets 10"

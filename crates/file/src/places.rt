@@ -1,8 +1,8 @@
 // Where the page of a file stands.
 ghost use mathlib.Core.Path.{_≡_};
 ghost use Rattle.file.specs.Places.{placesOf};
+use heading::write::header_length;
 use pgm::Header;
-use pgm::write::header_length;
 use placement::Placements;
 use placement::Spot;
 

@@ -2,7 +2,7 @@
 ghost use mathlib.Core.Path.{_≡_};
 ghost use Rattle.file.specs.Reading.{readingAlone};
 use super::places::places_of;
-use job::judge::judge_sides;
+use judging::judge::judge_sides;
 use pgm::Reading;
 use refusal::report::is_done;
 

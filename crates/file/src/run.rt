@@ -7,8 +7,8 @@ ghost use Rattle.file.specs.FileJob.{delivery, fileOutputAfter, fileScra
 ghost use Rattle.file.specs.Delivering.{Delivered, RanFile};
 use super::Delivery;
 use super::places::places_of;
+use heading::write::put_header;
 use pgm::Header;
-use pgm::write::put_header;
 use refusal::Answer;
 use refusal::report::is_done;
 use ticket::Ticket;

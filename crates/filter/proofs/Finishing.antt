@@ -16,7 +16,7 @@ use Rattle.runs.specs.Grid.{Tabled}
 use Rattle.ticket.specs.declared.HiddenBox.{HiddenBox}
 use Rattle.placement.specs.Placement.{pixelIn}
 use Rattle.placement.specs.declared.Placement.{Placement}
-use Rattle.tray.specs.Promises.{SameSides, PageIn, compactPixel}
+use Rattle.turning.specs.Promises.{SameSides, PageIn, compactPixel}
 use Rattle.tray.specs.Written.{written}
 use Rattle.tray.specs.Laws.{written-same}
 use Rattle.tray.specs.Turned.{acrossOf, downOf, compactHeight, compactAt}

@@ -5,10 +5,10 @@ use Prim.Native.Nat.{ℕ, _-_, _≤_, _<_}
 use native.Mathlib.Omega.{arith}
 use mir.Syntax.{w32}
 use mir.Val.{toZ, ofZ}
+use Rattle.vectors.specs.Vector.{steep}
 use Rattle.geometry.specs.Line.{period}
 use Rattle.geometry.specs.Drift as Drift
 use Rattle.geometry.specs.Laws as Lines
-use Rattle.geometry.specs.Vector.{steep}
 use Rattle.geometry.specs.declared.Line.{Line}
 use Rattle.runs.specs.Grid.{Sized}
 use Rattle.runs.specs.declared.Grid.{Grid}

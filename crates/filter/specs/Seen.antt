@@ -6,7 +6,7 @@ use mathlib.Core.Bool.{Bool, true, false, not, _&&_, cond}
 use mathlib.Core.Option.{Option, none, some}
 use mathlib.Core.List.{List}
 use lib.Dec.{ltb}
-use Rattle.geometry.specs.Vector.{steep}
+use Rattle.vectors.specs.Vector.{steep}
 use Rattle.geometry.specs.declared.Line.{Line}
 use Rattle.boxes.specs.Boxes.{hidden}
 use Rattle.ticket.specs.declared.HiddenBox.{HiddenBox}

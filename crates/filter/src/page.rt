@@ -45,7 +45,7 @@ fn filter_in(
     requires { ⌜ Tables how (compactHeight lay) (now profile) (now reaches) ⌝ }
     ensures { λ r. ⌜ Ready how from (now (source .entry)) (now (scratch .entry)) (now (scratch .exit)) r ⌝ }
 {
-    tray::turn::page_in(source, from, lay, scratch);
+    turning::turn::page_in(source, from, lay, scratch);
     let work = passes::filter_held(how, lay, profile, reaches, scratch);
     passes::hide_all(how, lay, scratch, how.white);
     work
@@ -81,7 +81,7 @@ fn filter_with(
     let lay = way.lay;
     fill_tables(how, profile, reaches);
     let work = filter_in(how, lay, source, from, scratch, profile, reaches);
-    tray::turn::page_out(scratch, lay, to, output);
+    turning::turn::page_out(scratch, lay, to, output);
     work
 }
 

@@ -6,7 +6,8 @@ ghost use Rattle.geometry.specs.Drift.{Allowed};
 ghost use Rattle.hiding.specs.Hiding.{Hideable, BoxesPainted};
 ghost use Rattle.filter.specs.Filters.{operated, recipeBoxes};
 ghost use Rattle.filter.specs.Work.{workOf};
-ghost use Rattle.filter.specs.Engine.{neutral, steepOf, fallsOf, layoutOf, backOf, gridOf, Fair, PassReady, PassDone};
+ghost use Rattle.filter.specs.Engine.{neutral, steepOf, fallsOf, layoutOf, backOf, gridOf, Fair, PassReady};
+ghost use Rattle.filter.specs.Engine.{PassDone};
 ghost use Rattle.filter.specs.Engine.{passed, passCost};
 use super::Recipe;
 use super::Segment;
@@ -34,7 +35,7 @@ fn is_steep(how: Recipe) -> bool
     ensures { λ r. ⌜ r ≡ steepOf how ⌝ }
 {
     let line = line_of(how);
-    geometry::vector::is_steep(line.dx, line.dy)
+    vectors::is_steep(line.dx, line.dy)
 }
 
 fn does_fall(how: Recipe) -> bool

@@ -1,6 +1,4 @@
 -- What the proofs of several functions use.
-mod Bits
-mod Vectors
 mod Profiles
 mod Tables
 mod Numbers

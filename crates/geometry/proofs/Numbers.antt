@@ -6,7 +6,7 @@ use mathlib.Core.List.{List}
 use Prim.Native.Nat.{ℕ, suc, _+_, _*_, _-_, _%_, _≤_, _<_}
 use native.Mathlib.Omega.{arith}
 use lib.ListN.{length, getD}
-use Rattle.geometry.specs.Vector.{majorOf}
+use Rattle.vectors.specs.Vector.{majorOf}
 use Rattle.geometry.specs.Line.{period, stepOf, majorAt}
 use Rattle.geometry.specs.Number.{inPage, behind, ahead}
 use Rattle.geometry.specs.Drift.{Sound, Inside, falls, drift, mirrored, reach}

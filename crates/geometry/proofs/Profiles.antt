@@ -7,13 +7,13 @@ use native.Mathlib.Omega.{arith}
 use lib.IntN.{ℤ, pos, negsuc, natAbs}
 use mir.Syntax.{w32}
 use mir.Val.{SFits}
-use Rattle.geometry.specs.Vector.{majorOf, minorOf}
+use Rattle.vectors.specs.Vector.{majorOf, minorOf}
+use Rattle.vectors.proofs.Bits.{back, near}
+use Rattle.vectors.proofs.Vectors.{part, of-parts, returned}
 use Rattle.geometry.specs.Drift.{Allowed}
 use Rattle.geometry.specs.Tables.{Slight}
 use Rattle.geometry.specs.Laws.{major-near}
 use Rattle.geometry.specs.declared.Line.{Line}
-use Rattle.geometry.proofs.Bits.{back, near}
-use Rattle.geometry.proofs.Vectors.{part, of-parts, returned}
 
 -- twice the true line's rise
 pub rise-near : (major minor c : ℕ) → Slight major minor c → 2 * c * minor ≤ 8355840

@@ -8,7 +8,7 @@ use mathlib.Core.Option.{some}
 use lib.Dec.{leb}
 use lib.IntN.{ℤ, pos, negℤ, natAbs}
 use lib.Signed.{nonNeg}
-use Rattle.geometry.specs.Vector.{majorOf, minorOf}
+use Rattle.vectors.specs.Vector.{majorOf, minorOf}
 use Rattle.geometry.specs.Line.{profile, landing, stepOf, majorAt}
 use Rattle.geometry.specs.declared.Line.{Line}
 

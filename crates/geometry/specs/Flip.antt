@@ -4,7 +4,7 @@
 -- Assumes nothing.
 use mathlib.Core.Bool.{cond}
 use lib.IntN.{negℤ}
-use Rattle.geometry.specs.Vector.{steep}
+use Rattle.vectors.specs.Vector.{steep}
 use Rattle.geometry.specs.declared.Line.{Line}
 
 -- "negating the minor component": the rows of a shallow vector, the columns of a steep one

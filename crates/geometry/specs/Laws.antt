@@ -28,7 +28,7 @@ use lib.Signed.{nonNeg}
 use mir.Syntax.{w32}
 use mir.Val.{SFits, toZ, ofZ}
 use mir.ValLaws.{toZ-ofZ}
-use Rattle.geometry.specs.Vector.{shallow, steep, Shallow, Steep, majorOf, minorOf}
+use Rattle.vectors.specs.Vector.{shallow, steep, Shallow, Steep, majorOf, minorOf}
 use Rattle.geometry.specs.Line.{nearest, D, period, profile, landing, stepOf, majorAt}
 use Rattle.geometry.specs.Number.{within, inPage, behind, ahead}
 use Rattle.geometry.specs.Drift.{Sound, Allowed, Inside, StepIn, Lands, First}

@@ -1,6 +1,5 @@
--- To be read: Vector, Line, Number, Drift, Flip, Tables (definitions), Worked (values), Laws (statements; their proofs
+-- To be read: Line, Number, Drift, Flip, Tables (definitions), Worked (values), Laws (statements; their proofs
 -- stand in Laws/).
-pub mod Vector
 pub mod Line
 pub mod Number
 pub mod Drift

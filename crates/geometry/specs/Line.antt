@@ -6,7 +6,7 @@ use Prim.Native.Nat.{ℕ, suc, _+_, _*_, _/_, _%_}
 use mathlib.Core.Bool.{cond}
 use mathlib.Core.Option.{Option, none, some}
 use lib.IntN.{ℤ, pos, negsuc, negℤ, _+ℤ_, _-ℤ_, _*ℤ_}
-use Rattle.geometry.specs.Vector.{majorOf, minorOf}
+use Rattle.vectors.specs.Vector.{majorOf, minorOf}
 use Rattle.geometry.specs.declared.Line.{Line}
 
 -- Document 02, wish 2: D "rounds the size with ties away from zero". The true line of a major component a and a minor

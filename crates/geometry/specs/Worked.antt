@@ -7,7 +7,7 @@ use mathlib.Core.Bool.{true, false, cond}
 use Prim.Native.Nat.{ℕ, zero, suc, _+_, _*_}
 use mathlib.Core.List.{List, [], _∷_, map}
 use lib.IntN.{ℤ, pos, negsuc}
-use Rattle.geometry.specs.Vector.{shallow, steep, majorOf, minorOf}
+use Rattle.vectors.specs.Vector.{shallow, steep, majorOf, minorOf}
 use Rattle.geometry.specs.Line.{nearest, D, shift, period, profile, place, landing, stepOf, majorAt}
 use Rattle.geometry.specs.Number.{within, inPage, count, behind, ahead}
 use Rattle.geometry.specs.declared.Line.{Line}

@@ -1,13 +1,11 @@
-// Lines across a page: which way they run, where each step lands, and which number a pixel has on its line.
-// The definitions stand in specs/: Vector (the two kinds of slope), Line (D, phases, steps), Number (behind, ahead),
-// Drift (the profile's size, the normal form, reach), Flip (the line of a flipped page). Laws has all that a layer
-// above may use.
+// Lines across a page: where each step lands, and which number a pixel has on its line. Which way a line runs,
+// `vectors` says. The definitions stand in specs/: Line (D, phases, steps), Number (behind, ahead), Drift (the
+// profile's size, the normal form, reach), Flip (the line of a flipped page). Laws has all that a layer above may use.
 
 pub mod entry;
 pub mod normal;
 pub mod number;
 pub mod profile;
-pub mod vector;
 
 // A line as a ticket orders it: connected or periodic, along the vector (dx, dy), with a phase.
 pub struct Line {

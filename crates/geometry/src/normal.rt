@@ -5,8 +5,8 @@ ghost use Rattle.geometry.specs.Line.{period, stepOf};
 ghost use Rattle.geometry.specs.Drift as drift;
 ghost use Rattle.geometry.specs.Drift.{Allowed};
 use crate::Line;
-use crate::vector::major_of;
-use crate::vector::minor_of;
+use vectors::major_of;
+use vectors::minor_of;
 
 // Whether a line comes to smaller places as it goes on.
 pub fn falls(line: Line) -> bool

@@ -6,9 +6,9 @@ ghost use Rattle.geometry.specs.Line as line;
 ghost use Rattle.geometry.specs.Drift.{Allowed, drift};
 ghost use Rattle.geometry.specs.Tables.{Slight, ProfileTable};
 use crate::Line;
-use crate::vector::major_of;
-use crate::vector::minor_of;
-use crate::vector::size;
+use vectors::major_of;
+use vectors::minor_of;
+use vectors::size;
 
 // The size of D at column c: how many places the row closest to the true line is away from row 0, whichever way. Half
 // the divisor is added before the division, so a tie goes away from zero.

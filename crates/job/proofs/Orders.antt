@@ -8,9 +8,9 @@ use mir.Syntax.{w32}
 use mir.Val.{toZ, ofZ}
 use lib.Dec.{eqb}
 use lib.IntN.{ℤ}
+use Rattle.vectors.specs.Vector.{majorOf}
 use Rattle.geometry.specs.Drift as Drift
 use Rattle.geometry.specs.Laws as Lines
-use Rattle.geometry.specs.Vector.{majorOf}
 use Rattle.ticket.specs.Judging.{isPeriodic}
 use Rattle.ticket.specs.Laws.{Allowed}
 use Rattle.ticket.specs.declared.Ticket.{Ticket}

@@ -1,6 +1,6 @@
 -- From judgements that are done to the filter, and from what it leaves to what the job promises. Assumes nothing.
 use mathlib.Core.Path.{_≡_, refl, sym, ap, _∙_, subst}
-use mathlib.Core.Bool.{true, false, _&&_, and-eq-true-iff}
+use mathlib.Core.Bool.{true, false}
 use mathlib.Core.List.{List}
 use mathlib.Core.Logic.{by-cases}
 use Prim.Native.Nat.{ℕ, _+_, _*_, _≤_}
@@ -10,10 +10,9 @@ use native.Mathlib.Omega.{arith}
 use lib.ListN.{length, getD}
 use lib.Seq.{ext-getD}
 use Rattle.refusal.specs.Answer.{isDone, whenDone}
-use Rattle.refusal.specs.Chain.{_then_, unless-done, then-on, then-stop, when-refused}
+use Rattle.refusal.specs.Chain.{_then_, then-on, then-stop, when-refused}
 use Rattle.refusal.specs.declared.Answer.{Answer}
 use Rattle.refusal.specs.declared.Answer.the-variants.{Done}
-use Rattle.refusal.specs.declared.Refusal.the-variants.{BadSides}
 use Rattle.ticket.specs.Judging.{judged}
 use Rattle.ticket.specs.Laws.{reading-good}
 use Rattle.ticket.specs.Reading.{shown, reading}
@@ -21,7 +20,7 @@ use Rattle.ticket.specs.declared.Reading.{Reading}
 use Rattle.ticket.specs.declared.Ticket.{Ticket}
 use Rattle.boxes.specs.Boxes.{boxesOf}
 use Rattle.hiding.specs.Hiding.{BoxesLie}
-use Rattle.placement.specs.Placement.{allowed, sourcePage, outputPage, scratchNeeded}
+use Rattle.placement.specs.Placement.{sourcePage, outputPage, scratchNeeded}
 use Rattle.placement.specs.Laws as placement
 use Rattle.placement.specs.Laws.{scratch-pages}
 use Rattle.placement.specs.declared.Placement.{Placement}
@@ -32,24 +31,17 @@ use Rattle.filter.specs.Engine.{layoutOf}
 use Rattle.filter.specs.Filters.{recipeBoxes}
 use Rattle.filter.specs.Promises.{Fits, Filtered}
 use Rattle.filter.specs.declared.Recipe.{Recipe}
-use Rattle.job.specs.Order.{recipeOf, white, pagesOf}
-use Rattle.job.specs.Judging.{judgeSides, judgePlaces}
-use Rattle.job.specs.Job.{finishedWith, finished, jobWork, jobScratch, answer, lengths, outputAfter, scratchAfter}
+use Rattle.job.specs.Order.{recipeOf, white}
+use Rattle.judging.specs.Pages.{pagesOf}
+use Rattle.judging.specs.Judging.{judgePlaces}
+use Rattle.job.specs.Job.{finishedWith, finished, jobWork, answer, lengths, outputAfter, scratchAfter}
+use Rattle.judging.specs.Pages.{jobScratch}
 use Rattle.job.specs.Finishing.{Unrefused, Finished, RanRead}
-use Rattle.job.specs.Laws.{Stands, stands, pages-least, pages-most}
-use Rattle.job.specs.declared.Lengths.{Lengths}
+use Rattle.judging.specs.Laws.{Stands, stands, pages-least}
+use Rattle.judging.specs.declared.Lengths.{Lengths}
 use Rattle.job.proofs.Orders.{segment-fair}
 
--- ---- sides within their limits
-
-pub scratch-as :
-    (t : Ticket) (p : Placements) (pages : ℕ) → pages ≡ pagesOf t → isDone (judgeSides p) ≡ true
-    → (pages ≤ 3) × (p .width ≤ 8192) × (p .height ≤ 8192)
-unfolding judgeSides sourcePage
-scratch-as t p pages e done =
-    let both = unless-done (allowed (sourcePage p) && allowed (outputPage p)) BadSides 0 done in
-    let small = placement.sides-most (sourcePage p) (and-eq-true-iff (allowed (sourcePage p)) (allowed (outputPage p)) .0 both .0) in
-    (omega (arith, pages-most t), small .0, small .1)
+-- ---- the scratch that is used
 
 pub needed-as :
     (t : Ticket) (p : Placements) (pages n : ℕ) → pages ≡ pagesOf t → n ≡ scratchNeeded pages (p .width) (p .height)

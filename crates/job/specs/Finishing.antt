@@ -13,8 +13,9 @@ use Rattle.ticket.specs.declared.Ticket.{Ticket}
 use Rattle.placement.specs.Placement.{sourcePage, outputPage}
 use Rattle.placement.specs.declared.Placements.{Placements}
 use Rattle.tray.specs.Written.{written, cleared}
-use Rattle.job.specs.Judging.{judgePlaces}
-use Rattle.job.specs.Job.{finishedWith, jobWork, jobScratch, lengths}
+use Rattle.judging.specs.Judging.{judgePlaces}
+use Rattle.job.specs.Job.{finishedWith, jobWork, lengths}
+use Rattle.judging.specs.Pages.{jobScratch}
 
 -- the ticket was read, and none of refusals 10 to 14 is given
 pub record Unrefused (t : Ticket) (p : Placements) (source output scratch : ℕ) : Type 0 where

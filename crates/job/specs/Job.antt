@@ -11,15 +11,16 @@ use Rattle.refusal.specs.declared.Answer.the-variants.{Done}
 use Rattle.ticket.specs.Judging.{judged}
 use Rattle.ticket.specs.Reading.{shown}
 use Rattle.ticket.specs.declared.Ticket.{Ticket}
-use Rattle.placement.specs.Placement.{pixelIn, sourcePage, outputPage, scratchNeeded}
+use Rattle.placement.specs.Placement.{pixelIn, sourcePage, outputPage}
 use Rattle.placement.specs.declared.Placement.{Placement}
 use Rattle.placement.specs.declared.Placements.{Placements}
 use Rattle.tray.specs.Written.{written, cleared}
 use Rattle.filter.specs.Filters.{filteredPage}
 use Rattle.filter.specs.Work.{workOf}
-use Rattle.job.specs.Order.{segmentOf, recipeOf, white, pagesOf}
-use Rattle.job.specs.Judging.{judgePlaces}
-use Rattle.job.specs.declared.Lengths.{Lengths}
+use Rattle.job.specs.Order.{segmentOf, recipeOf, white}
+use Rattle.judging.specs.Pages.{jobScratch}
+use Rattle.judging.specs.Judging.{judgePlaces}
+use Rattle.judging.specs.declared.Lengths.{Lengths}
 
 -- the finished page, by column and row: what the filter makes of the page that stands in a tray, with this white
 unfoldable pub finishedWith : ℕ → Ticket → Placement → List ℕ → ℕ → ℕ → ℕ
@@ -32,10 +33,6 @@ finished t p tray c r = finishedWith white t p tray c r
 -- the comparisons on a page w by h
 unfoldable pub jobWork : Ticket → ℕ → ℕ → ℕ
 jobWork t w h = workOf (t .operation) (segmentOf t) w h
-
--- the scratch that a job uses
-unfoldable pub jobScratch : Ticket → Placements → ℕ
-jobScratch t p = scratchNeeded (pagesOf t) (p .width) (p .height)
 
 -- refusals 1 to 9 come first, then 10 to 14; a page that nothing refuses is finished
 unfoldable pub answer : List ℕ → Placements → Lengths → Answer

@@ -1,5 +1,4 @@
 pub mod Order
-pub mod Judging
 pub mod Job
 pub mod Finishing
 pub mod Laws

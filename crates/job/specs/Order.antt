@@ -23,7 +23,3 @@ recipeOf t white =
 -- "A hidden pixel comes out as 255 in every finished page."
 abbrev pub white : ℕ
 white = 255
-
--- how many pages a job keeps in the scratch: "2·w·h + 3·max(w, h) bytes"
-unfoldable pub pagesOf : Ticket → ℕ
-pagesOf t = 2

@@ -1,7 +1,7 @@
 // What a ticket orders of the filter.
 ghost use mathlib.Core.Path.{_≡_};
 ghost use Rattle.ticket.specs.Laws.{Allowed};
-ghost use Rattle.job.specs.Order.{recipeOf, pagesOf};
+ghost use Rattle.job.specs.Order.{recipeOf};
 use filter::Recipe;
 use filter::Segment;
 use geometry::Line;
@@ -34,11 +34,4 @@ pub fn recipe_of(t: Ticket, white: u8) -> Recipe
         count: t.count,
         boxes: boxes,
     }
-}
-
-// How many pages a job keeps in the scratch: two, whatever its operation.
-pub fn pages_of(t: Ticket) -> usize
-    ensures { λ r. ⌜ r ≡ pagesOf t ⌝ }
-{
-    2
 }

@@ -7,7 +7,7 @@ use geometry::entry::fill_reach;
 use geometry::number::ahead_at;
 use geometry::number::behind_at;
 use geometry::profile::fill_profile;
-use geometry::vector::is_steep;
+use vectors::is_steep;
 
 // Prints the two numbers of a pixel.
 fn print_numbers(behind: usize, ahead: usize) {

@@ -2,14 +2,14 @@
 ghost use mathlib.Core.Path.{_≡_};
 ghost use mathlib.Core.Bool.{true, _||_};
 ghost use Prim.Native.Nat.{_≤_, _<_};
-ghost use Rattle.geometry.specs.Vector.{majorOf, shallow, steep};
+ghost use Rattle.vectors.specs.Vector.{majorOf, shallow, steep};
 ghost use Rattle.geometry.specs.Drift.{Allowed};
 ghost use Rattle.numbers.specs.Page.{Good, Sides};
 use geometry::Line;
-use geometry::vector::component_size;
-use geometry::vector::is_shallow;
-use geometry::vector::is_steep;
-use geometry::vector::major_of;
+use vectors::component_size;
+use vectors::is_shallow;
+use vectors::is_steep;
+use vectors::major_of;
 
 pub struct Order {
     pub kind: u8,

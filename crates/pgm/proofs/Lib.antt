@@ -2,5 +2,4 @@ pub mod Headers
 pub mod Images
 pub mod Readings
 pub mod Scans
-pub mod Stores
 pub mod Told

@@ -5,7 +5,5 @@ pub mod Laws
 pub mod Scanning
 pub mod Fielding
 pub mod Pixels
-pub mod Writing
-pub mod Decimal
 pub mod ReadBack
 pub mod Worked

@@ -13,16 +13,16 @@ use lib.Seq.{take-at, drop-at}
 use Rattle.refusal.specs.Answer.{whenDone}
 use Rattle.refusal.specs.Chain.{unless, _then_}
 use Rattle.refusal.specs.declared.Answer.the-variants.{Done}
+use Rattle.heading.specs.Decimal.{decimal-small, decimal-more, by-digits, length-header}
+use Rattle.heading.specs.Writing.{decimal, line, headerOf, fileOf}
 use Rattle.pgm.specs.Bytes.{Byte, isSpace, isDigit, isHash, uncommented, bytesFrom, firstPlace}
 use Rattle.pgm.specs.Bytes.{startsWith, behind, numeral}
-use Rattle.pgm.specs.Decimal.{decimal-small, decimal-more, by-digits, length-header}
 use Rattle.pgm.specs.Header.{digits, numberIn, behindNumber, fromWidth, fromHeight, fromMaximum, fromDelimiter}
 use Rattle.pgm.specs.Header.{widthIn, heightIn, maximumIn, pixelsStart}
 use Rattle.pgm.specs.Header.{judgeNumber, judgeMagic, judgeFromMaximum, judgeHeader, judgeMaximum}
 use Rattle.pgm.specs.Laws.{told-same}
 use Rattle.pgm.specs.Reading.{soundPixels, imagePixels, judgePixels, judged}
 use Rattle.pgm.specs.Reading.{largest, told, headerIn, shownAt, reading}
-use Rattle.pgm.specs.Writing.{decimal, line, headerOf, fileOf}
 
 -- ---- the digits of a number
 

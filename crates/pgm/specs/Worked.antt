@@ -11,6 +11,7 @@ use Rattle.refusal.specs.declared.Answer.{Answer}
 use Rattle.refusal.specs.declared.Answer.the-variants.{Done, Refused}
 use Rattle.refusal.specs.declared.Later.the-variants.{BadHeader, BadMaximum, BadPixel}
 use Rattle.refusal.specs.declared.Refusal.the-variants.{Later}
+use Rattle.heading.specs.Writing.{decimalIn, decimal, line, headerOf, fileOf}
 use Rattle.pgm.specs.Bytes.{isSpace, isDigit, isHash, isLineEnd, uncommented, bytesFrom, firstPlace, startsWith}
 use Rattle.pgm.specs.Bytes.{behind, numeral}
 use Rattle.pgm.specs.Header.{digits, numberIn, behindNumber, judgeNumber, fromWidth, fromHeight, fromMaximum}
@@ -18,7 +19,6 @@ use Rattle.pgm.specs.Header.{fromDelimiter, widthIn, heightIn, maximumIn
 use Rattle.pgm.specs.Header.{judgeMagic, judgeFromMaximum, judgeHeader, judgeMaximum}
 use Rattle.pgm.specs.Reading.{soundPixels, imagePixels, judgePixels, judged}
 use Rattle.pgm.specs.Reading.{told, headerIn, noHeader, shownAt, reading}
-use Rattle.pgm.specs.Writing.{decimalIn, decimal, line, headerOf, fileOf}
 
 -- the bytes of a text
 abbrev text : String → List ℕ

@@ -1,16 +1,14 @@
-// Raw Netpbm grey files (P5): read and written. The definitions stand in specs/: Bytes (white space, digits, comments),
-// Header (the fields, refusals 15 and 16), Reading (refusal 17, what is told of a file), Writing (the file of a page),
-// Laws (what callers rely on), ReadBack (what is written reads back); Scanning, Fielding and Pixels have what the
-// private functions promise one another.
+// Raw Netpbm grey files (P5), read. The definitions stand in specs/: Bytes (white space, digits, comments), Header (the
+// fields, refusals 15 and 16), Reading (refusal 17, what is told of a file), Laws (what callers rely on), ReadBack
+// (what is written, as `heading` has it, reads back); Scanning, Fielding and Pixels have what the private functions
+// promise one another.
 //
 //     scan     bytes outside comments, runs of white space and digits, numbers
 //     fields   the header, refusals 15 and 16
 //     pixels   refusal 17
-//     write    a header written
 mod fields;
 mod pixels;
 mod scan;
-pub mod write;
 
 ghost use mathlib.Core.Path.{_≡_};
 ghost use Rattle.pgm.specs.Reading.{noHeader, shownAt, reading};

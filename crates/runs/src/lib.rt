@@ -4,9 +4,9 @@
 //
 // The definitions stand in specs/: Span (the extreme between two steps), Block (van Herk's scheme along one line,
 // and its cost), Grid (lines of a page in normal form), Scratch (the two pages, and what is kept of them), Runs
-// (runs, marks and plans); BlockLaws and GridLaws are what follows from them.
+// (runs, marks, and a plan carried out); BlockLaws and GridLaws are what follows from them. The plans of the sweeps
+// are made in `planning`.
 //
-//     plans   how a row is made: what is written, what is read, where blocks begin
 //     walk    a plan carried out
 //     marks   where the lines of side columns are in their blocks
 //     run     runs of neighbouring bytes: copied, or compared and counted
@@ -14,7 +14,6 @@
 use geometry::Line;
 
 pub mod marks;
-pub mod plans;
 pub mod run;
 pub mod step;
 pub mod walk;

@@ -1,4 +1,2 @@
 pub mod Named
-pub mod Numbers
 pub mod Sides
-pub mod Words

@@ -5,8 +5,8 @@ use Prim.Native.Nat.{ℕ}
 use Rattle.refusal.specs.declared.Answer.{Answer}
 use Rattle.job.specs.Job.{lengths, answer, outputAfter, scratchAfter}
 use Rattle.placement.specs.declared.Placements.{Placements}
-use Rattle.sotrugla.specs.Outcome.{outcomeOf}
-use Rattle.sotrugla.specs.declared.Outcome.{Outcome}
+use Rattle.showing.specs.Outcome.{outcomeOf}
+use Rattle.showing.specs.declared.Outcome.{Outcome}
 
 pub told :
     (ticket : List ℕ) (p q : Placements) (source output scratch after used : List ℕ) (given : Answer) (said : Outcome) → p ≡ q

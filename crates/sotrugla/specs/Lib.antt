@@ -1,6 +1,5 @@
 pub mod Files
 pub mod Hiding
-pub mod Outcome
-pub mod Shown
+pub mod Pages
 pub mod Version
 pub mod Worked

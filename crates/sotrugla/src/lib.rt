@@ -3,13 +3,13 @@
 // its bytes are there, and no two of the buffers overlap.
 pub mod files; // files.rt: pages that arrive as P5 files
 pub mod lists; // lists.rt: a whole tray in one call
-mod shown; // shown.rt: a ticket alone, as a row of numbers
 
 ghost use mathlib.Core.Path.{_≡_};
 ghost use lib.ListN.{length};
 ghost use Rattle.job.specs.Job.{lengths, answer, outputAfter, scratchAfter};
-ghost use Rattle.sotrugla.specs.Shown.{readOutcome, numbersAfter};
-ghost use Rattle.sotrugla.specs.Outcome.{placementsOf, outcomeOf, scratchFor};
+ghost use Rattle.showing.specs.Shown.{readOutcome, numbersAfter};
+ghost use Rattle.sotrugla.specs.Pages.{placementsOf, scratchFor};
+ghost use Rattle.showing.specs.Outcome.{outcomeOf};
 ghost use Rattle.sotrugla.specs.Hiding.{hiddenBy};
 ghost use Rattle.sotrugla.specs.Version.{version};
 use placement::Placements;
@@ -17,16 +17,9 @@ use placement::Spot;
 use refusal::Answer;
 use refusal::Later;
 use refusal::Refusal;
-use refusal::report;
-
-// An answer: refusal is 0 for a finished page, a ticket that was read or a list that was run, else the number of the
-// refusal. 1 to 25 are the documents' (1 to 18 so far); 100 is ours and means a buffer of numbers that is too short.
-#[repr(C)]
-pub struct Outcome {
-    pub refusal: u64,
-    pub place: u64,
-    pub work: u64,
-}
+use showing::Outcome;
+use showing::outcome_of;
+use showing::shown;
 
 fn placements(
     width: usize,
@@ -51,17 +44,6 @@ fn placements(
         height: height,
         source: source,
         output: output,
-    }
-}
-
-// An answer as the numbers that a host reads.
-fn outcome_of(a: Answer) -> Outcome
-    ensures { λ r. ⌜ r ≡ outcomeOf a ⌝ }
-{
-    Outcome {
-        refusal: report::number(a) as u64,
-        place: report::place(a) as u64,
-        work: report::work(a),
     }
 }
 

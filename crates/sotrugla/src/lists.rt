@@ -3,9 +3,9 @@ ghost use mathlib.Core.Path.{_≡_};
 ghost use lib.ListN.{length};
 ghost use Rattle.batch.specs.Batch.{lent};
 ghost use Rattle.batch.specs.Call.{listAnswer, listOutputAfter, listScratchAfter, listAnswersAfter};
-ghost use Rattle.sotrugla.specs.Outcome.{outcomeOf};
-use super::Outcome;
-use super::outcome_of;
+ghost use Rattle.showing.specs.Outcome.{outcomeOf};
+use showing::Outcome;
+use showing::outcome_of;
 
 // Runs a list of up to 256 jobs in its order on one source tray, one output tray and one scratch. A job is eight
 // numbers, an answer three.

@@ -11,7 +11,8 @@ use Rattle.runs.specs.Grid.{startRow, lineName, number, lineSteps, spot}
 use Rattle.runs.specs.GridLaws.{row-fits}
 use Rattle.runs.specs.Scratch.{size}
 use Rattle.sweep.specs.Sweeps.{Ready, PartDone, target, newAt, costAt}
-use Rattle.runs.specs.Runs.{Row, FarEdge, placeOn, inBlock, Planned, Walked, BackwardPlan}
+use Rattle.runs.specs.Runs.{Row, FarEdge, placeOn, inBlock, Planned, Walked}
+use Rattle.planning.specs.Plans.{BackwardPlan}
 use Rattle.runs.specs.declared.Grid.{Grid}
 use Rattle.runs.specs.declared.Plan.{Plan}
 use Rattle.sweep.specs.declared.Sweep.the-variants.{Backward}

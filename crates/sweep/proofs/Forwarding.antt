@@ -10,7 +10,8 @@ use Rattle.geometry.specs.Laws.{period-forward}
 use Rattle.runs.specs.Span.{chosen, chosen-comm}
 use Rattle.runs.specs.Grid.{startRow, lineName, number, spot}
 use Rattle.sweep.specs.Sweeps.{Ready, PartDone, RowSwept, target, newAt, costAt}
-use Rattle.runs.specs.Runs.{Row, inBlock, Planned, Walked, ForwardPlan}
+use Rattle.runs.specs.Runs.{Row, inBlock, Planned, Walked}
+use Rattle.planning.specs.Plans.{ForwardPlan}
 use Rattle.runs.specs.declared.Grid.{Grid}
 use Rattle.runs.specs.declared.Plan.{Plan}
 use Rattle.sweep.specs.declared.Sweep.the-variants.{Forward}

@@ -11,7 +11,8 @@ use Rattle.runs.specs.Grid.{startRow, lineName, number, spot}
 use Rattle.runs.specs.GridLaws.{StepOnPage, row-fits}
 use Rattle.runs.specs.Scratch.{size}
 use Rattle.sweep.specs.Sweeps.{Ready, PartDone, target, newAt, costAt, windowRows}
-use Rattle.runs.specs.Runs.{Row, EdgeAt, FarEdge, Copied, placeOn, entryAt, inBlock, Planned, Walked, ResultPlan}
+use Rattle.runs.specs.Runs.{Row, EdgeAt, FarEdge, Copied, placeOn, entryAt, inBlock, Planned, Walked}
+use Rattle.planning.specs.Plans.{ResultPlan}
 use Rattle.runs.specs.declared.Grid.{Grid}
 use Rattle.runs.specs.declared.Plan.{Plan}
 use Rattle.sweep.specs.declared.Sweep.the-variants.{Result}

@@ -9,8 +9,8 @@ ghost use Rattle.runs.specs.Scratch.{size};
 ghost use Rattle.sweep.specs.Sweeps.{PartDone, RowSwept};
 use super::Sweep;
 use super::rest;
+use planning::plans;
 use runs::Grid;
-use runs::plans;
 use runs::run;
 use runs::walk;
 

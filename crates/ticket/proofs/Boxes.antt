@@ -13,7 +13,8 @@ use Rattle.refusal.specs.Answer.{isDone}
 use Rattle.refusal.specs.Chain.{_then_, then-on, then-stop}
 use Rattle.refusal.specs.declared.Answer.{Answer}
 use Rattle.refusal.specs.declared.Answer.the-variants.{Done}
-use Rattle.ticket.specs.Fields.{firstBox, fieldEnd, boxAt, boxesFrom, boxesIn}
+use Rattle.fields.specs.Fields.{firstBox, fieldEnd}
+use Rattle.ticket.specs.Boxes.{boxAt, boxesFrom, boxesIn}
 use Rattle.ticket.specs.Judging.{judgeBox, judgeBoxes}
 use Rattle.ticket.specs.Reading.{noBox, boxPlaces}
 use Rattle.ticket.specs.declared.HiddenBox.{HiddenBox}

@@ -1,6 +1,3 @@
 pub mod Boxes
 pub mod Chains
-pub mod Divisors
 pub mod Records
-pub mod Signs
-pub mod Vectors

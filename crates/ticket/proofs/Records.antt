@@ -7,7 +7,8 @@ use lib.IntN.{ℤ}
 use lib.ListN.{length}
 use Rattle.refusal.specs.Answer.{isDone}
 use Rattle.refusal.specs.declared.Answer.{Answer}
-use Rattle.ticket.specs.Fields.{operationIn, lineIn, dxIn, dyIn, lengthIn, originIn, phaseIn, boxesIn}
+use Rattle.fields.specs.Fields.{operationIn, lineIn, dxIn, dyIn, lengthIn, originIn, phaseIn}
+use Rattle.ticket.specs.Boxes.{boxesIn}
 use Rattle.ticket.specs.Judging.{judged}
 use Rattle.ticket.specs.Reading.{blank, boxPlaces, shown, reading}
 use Rattle.ticket.specs.Laws.{reading-good, reading-refused}

@@ -7,8 +7,8 @@ use mathlib.Core.Bool.{true, _||_}
 use mathlib.Core.List.{List}
 use lib.ListN.{length, getD}
 use lib.IntN.{natAbs}
-use Rattle.geometry.specs.Vector.{shallow, steep}
-use Rattle.ticket.specs.Judging.{coprime}
+use Rattle.vectors.specs.Vector.{shallow, steep}
+use Rattle.fields.specs.Vectors.{coprime}
 use Rattle.ticket.specs.Reading.{noBox}
 use Rattle.ticket.specs.declared.HiddenBox.{HiddenBox}
 use Rattle.ticket.specs.declared.Ticket.{Ticket}

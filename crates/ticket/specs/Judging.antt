@@ -3,18 +3,17 @@
 -- the field at fault: "The place of a head is its byte index; where bytes end before a head, it is the index where
 -- the head would start." A judgement that finds nothing to refuse is done, with no work.
 -- Assumes nothing.
-use Prim.Native.Nat.{ℕ, zero, suc, _+_, _%_, max}
-use mathlib.Core.Bool.{Bool, false, not, _&&_, _||_, cond}
+use Prim.Native.Nat.{ℕ, zero, suc, _+_}
+use mathlib.Core.Bool.{Bool, _&&_, cond}
 use mathlib.Core.List.{List}
 use lib.ListN.{length}
 use lib.Dec.{ltb, leb, eqb}
-use lib.IntN.{ℤ, natAbs}
-use Rattle.geometry.specs.Vector.{shallow, steep}
 use Rattle.refusal.specs.Chain.{unless, _then_}
 use Rattle.refusal.specs.declared.Answer.{Answer}
 use Rattle.refusal.specs.declared.Answer.the-variants.{Done}
 use Rattle.refusal.specs.declared.Refusal.the-variants.{TicketEnds, WrongTag, WrongLength, Unknown, TooManyBoxes, BadVector, BadLength, BadOrigin, BadPhase}
-use Rattle.ticket.specs.Fields.{headBytes, byteAt, numberAt, operationHead, lineHead, vectorHead, lengthHead, originHead, phaseHead, firstBox, fieldEnd, mostBoxes, operationIn, lineIn, dxIn, dyIn, lengthIn, originIn, phaseIn}
+use Rattle.fields.specs.Fields.{headBytes, byteAt, numberAt, operationHead, lineHead, vectorHead, lengthHead, originHead, phaseHead, firstBox, fieldEnd, mostBoxes, operationIn, lineIn, dxIn, dyIn, lengthIn, originIn, phaseIn}
+use Rattle.fields.specs.Vectors.{vectorAllowed, phaseAllowed}
 
 -- | 1 | ticket ends in a field, or before one of tags 1 to 6 |, | 2 | a tag other than the one due |
 unfoldable pub judgeHead : List ℕ → ℕ → ℕ → Answer
@@ -42,21 +41,6 @@ lineKnown n = leb 1 n && leb n 2
 unfoldable pub isPeriodic : ℕ → Bool
 isPeriodic n = eqb n 2
 
--- whether one of the n numbers from d on divides both sizes
-unfoldable pub divided : ℕ → ℕ → ℕ → ℕ → Bool
-divided a b d zero = false
-divided a b d (suc n) = (eqb (a % d) 0 && eqb (b % d) 0) || divided a b (suc d) n
-
--- "without a common divisor above 1": no component is above 255, so the divisors 2 to 255 are all there are
-unfoldable pub coprime : ℤ → ℤ → Bool
-coprime dx dy = not (divided (natAbs dx) (natAbs dy) 2 254)
-
--- | 6 | vector not allowed |: "The vector is shallow .. or steep .., each component within -255 to 255. A connected
--- line also needs dx and dy without a common divisor above 1; 0/1 and 1/0 are allowed."
-unfoldable pub vectorAllowed : Bool → ℤ → ℤ → Bool
-vectorAllowed periodic dx dy =
-    (shallow dx dy || steep dx dy) && (leb (natAbs dx) 255 && leb (natAbs dy) 255) && (periodic || coprime dx dy)
-
 -- | 7 | L is 0 or above 8192 |
 unfoldable pub lengthAllowed : ℕ → Bool
 lengthAllowed l = leb 1 l && leb l 8192
@@ -64,10 +48,6 @@ lengthAllowed l = leb 1 l && leb l 8192
 -- | 8 | o not below L |
 unfoldable pub originAllowed : ℕ → ℕ → Bool
 originAllowed l o = ltb o l
-
--- | 9 | phase not allowed |: "connected, below max(abs dx, abs dy); periodic, 0"
-unfoldable pub phaseAllowed : Bool → ℤ → ℤ → ℕ → Bool
-phaseAllowed periodic dx dy i = cond periodic (eqb i 0) (ltb i (max (natAbs dx) (natAbs dy)))
 
 -- the six fields that stand once
 unfoldable pub judgeOperation : List ℕ → Answer

@@ -13,15 +13,19 @@ use lib.ListN.{length, getD, take, replicate, length-append, length-replicate}
 use lib.Seq.{take-append-seam}
 use lib.Dec.{ltb, leb, eqb}
 use lib.IntN.{ℤ, natAbs}
-use Rattle.geometry.specs.Vector.{shallow, steep}
+use Rattle.vectors.specs.Vector.{shallow, steep}
 use Rattle.refusal.specs.Answer.{isDone}
 use Rattle.refusal.specs.Chain.{unless, _then_, then-done, unless-done, when-done, when-refused}
 use Rattle.refusal.specs.declared.Answer.{Answer}
 use Rattle.refusal.specs.declared.Refusal.{Refusal}
 use Rattle.refusal.specs.declared.Refusal.the-variants.{Unknown, BadVector, BadLength, BadOrigin, BadPhase}
-use Rattle.ticket.specs.Fields.{byteAt, numberAt, firstBox, fieldEnd, boxAt, boxesFrom, boxesIn, operationIn, lineIn, dxIn, dyIn, lengthIn, originIn, phaseIn}
-use Rattle.ticket.specs.Judging.{operationKnown, lineKnown, isPeriodic, coprime, vectorAllowed, lengthAllowed, originAllowed, phaseAllowed, judgeField, judgeOperation, judgeLine, judgeVector, judgeLength, judgeOrigin, judgePhase, judgeBoxes, judged}
-use Rattle.ticket.specs.Judging.{divided}
+use Rattle.fields.specs.Fields.{byteAt, numberAt, firstBox, fieldEnd, operationIn, lineIn, dxIn, dyIn, lengthIn}
+use Rattle.fields.specs.Fields.{originIn, phaseIn}
+use Rattle.ticket.specs.Boxes.{boxAt, boxesFrom, boxesIn}
+use Rattle.fields.specs.Vectors.{divided, coprime, vectorAllowed, phaseAllowed}
+use Rattle.ticket.specs.Judging.{operationKnown, lineKnown, isPeriodic, lengthAllowed, originAllowed, judgeField}
+use Rattle.ticket.specs.Judging.{judgeOperation, judgeLine, judgeVector, judgeLength, judgeOrigin, judgePhase}
+use Rattle.ticket.specs.Judging.{judgeBoxes, judged}
 use Rattle.ticket.specs.Reading.{noBox, blank, boxPlaces, shown, reading}
 use Rattle.ticket.specs.declared.HiddenBox.{HiddenBox}
 use Rattle.ticket.specs.declared.Reading.{Reading}

@@ -1,4 +1,4 @@
-pub mod Fields
+pub mod Boxes
 pub mod Judging
 pub mod Reading
 pub mod Allowed

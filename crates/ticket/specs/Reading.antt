@@ -6,7 +6,8 @@ use mathlib.Core.List.{List, _++_}
 use lib.ListN.{length, replicate}
 use lib.IntN.{pos}
 use Rattle.refusal.specs.Answer.{whenDone}
-use Rattle.ticket.specs.Fields.{operationIn, lineIn, dxIn, dyIn, lengthIn, originIn, phaseIn, mostBoxes, boxesIn}
+use Rattle.fields.specs.Fields.{operationIn, lineIn, dxIn, dyIn, lengthIn, originIn, phaseIn, mostBoxes}
+use Rattle.ticket.specs.Boxes.{boxesIn}
 use Rattle.ticket.specs.Judging.{judged}
 use Rattle.ticket.specs.declared.HiddenBox.{HiddenBox}
 use Rattle.ticket.specs.declared.Ticket.{Ticket}

@@ -4,14 +4,20 @@
 use mathlib.Core.Path.{_≡_, refl}
 use Prim.Native.Nat.{ℕ, zero, suc}
 use mathlib.Core.List.{List, [], _∷_, _++_, map}
-use Rattle.geometry.specs.Vector.{shallow, steep}
-use Rattle.ticket.specs.Fields.{byteAt, numberAt, signed16, signedAt, operationIn, lineIn, dxIn, dyIn, lengthIn, originIn, phaseIn, fieldEnd, boxAt, boxesFrom, boxesIn}
-use Rattle.ticket.specs.Judging.{judgeHead, judgeSize, judgeField, operationKnown, lineKnown, isPeriodic, divided, coprime, vectorAllowed, lengthAllowed, originAllowed, phaseAllowed, judgeOperation, judgeLine, judgeVector, judgeLength, judgeOrigin, judgePhase, judgeBox, judgeBoxes, judged}
+use Rattle.vectors.specs.Vector.{shallow, steep}
+use Rattle.fields.specs.Fields.{byteAt, numberAt, signed16, signedAt, operationIn, lineIn, dxIn, dyIn, lengthIn}
+use Rattle.fields.specs.Fields.{originIn, phaseIn, fieldEnd}
+use Rattle.ticket.specs.Boxes.{boxAt, boxesFrom, boxesIn}
+use Rattle.fields.specs.Vectors.{divided, coprime, vectorAllowed, phaseAllowed}
+use Rattle.ticket.specs.Judging.{judgeHead, judgeSize, judgeField, operationKnown, lineKnown, isPeriodic}
+use Rattle.ticket.specs.Judging.{lengthAllowed, originAllowed, judgeOperation, judgeLine, judgeVector}
+use Rattle.ticket.specs.Judging.{judgeLength, judgeOrigin, judgePhase, judgeBox, judgeBoxes, judged}
 use Rattle.ticket.specs.declared.HiddenBox.{HiddenBox}
 use Rattle.refusal.specs.Chain.{unless, _then_}
 use Rattle.refusal.specs.declared.Answer.{Answer}
 use Rattle.refusal.specs.declared.Answer.the-variants.{Done, Refused}
-use Rattle.refusal.specs.declared.Refusal.the-variants.{TicketEnds, TooManyBoxes, WrongLength, BadVector, BadLength, BadOrigin, BadPhase}
+use Rattle.refusal.specs.declared.Refusal.the-variants.{TicketEnds, TooManyBoxes, WrongLength, BadVector, BadLength}
+use Rattle.refusal.specs.declared.Refusal.the-variants.{BadOrigin, BadPhase}
 
 record Case : Type 0 where
   ticket : List ℕ

@@ -1,11 +1,10 @@
 // The ticket as shown: its fields, and 64 box places, zero past its boxes.
 use super::HiddenBox;
 use super::Ticket;
-use super::fields;
 ghost use mathlib.Core.Path.{_≡_};
 ghost use Prim.Native.Nat.{_<_};
 ghost use lib.ListN.{length, replicate};
-ghost use Rattle.ticket.specs.Fields.{boxAt, boxesIn};
+ghost use Rattle.ticket.specs.Boxes.{boxAt, boxesIn};
 ghost use Rattle.ticket.specs.Reading.{noBox, blank, boxPlaces, shown};
 
 fn no_box() -> HiddenBox
@@ -23,12 +22,12 @@ fn box_at(s: &[u8], head: usize) -> HiddenBox
     requires { ⌜ head < 8388608 ⌝ }
     ensures { λ r. ⌜ r ≡ boxAt (now (s .entry)) head ⌝ }
 {
-    let value = head + fields::HEAD_BYTES;
+    let value = head + fields::value::HEAD_BYTES;
     HiddenBox {
-        left: fields::number_at(s, value) as usize,
-        top: fields::number_at(s, value + 2) as usize,
-        width: fields::number_at(s, value + 4) as usize,
-        height: fields::number_at(s, value + 6) as usize,
+        left: fields::value::number_at(s, value) as usize,
+        top: fields::value::number_at(s, value + 2) as usize,
+        width: fields::value::number_at(s, value + 4) as usize,
+        height: fields::value::number_at(s, value + 6) as usize,
     }
 }
 
@@ -50,14 +49,14 @@ fn find_boxes(s: &[u8]) -> Boxes
     ensures placed { λ r. ⌜ r .places ≡ boxPlaces (boxesIn (now (s .entry))) ⌝ }
 {
     let mut places = no_boxes();
-    let mut head: usize = fields::FIRST_BOX;
+    let mut head: usize = fields::value::FIRST_BOX;
     let mut count: usize = 0;
-    while count < fields::MOST_BOXES {
+    while count < fields::value::MOST_BOXES {
         if s.len() <= head {
             return Boxes { count, places };
         }
         places[count] = box_at(s, head);
-        head = fields::field_end(s, head);
+        head = fields::value::field_end(s, head);
         count += 1;
     }
     Boxes { count, places }
@@ -86,13 +85,13 @@ pub fn show(s: &[u8]) -> Ticket
     let found = find_boxes(s);
     let boxes = found.places;
     Ticket {
-        operation: fields::operation_in(s) as usize,
-        line: fields::line_in(s) as usize,
-        dx: fields::dx_in(s),
-        dy: fields::dy_in(s),
-        length: fields::length_in(s) as usize,
-        origin: fields::origin_in(s) as usize,
-        phase: fields::phase_in(s) as usize,
+        operation: fields::value::operation_in(s) as usize,
+        line: fields::value::line_in(s) as usize,
+        dx: fields::value::dx_in(s),
+        dy: fields::value::dy_in(s),
+        length: fields::value::length_in(s) as usize,
+        origin: fields::value::origin_in(s) as usize,
+        phase: fields::value::phase_in(s) as usize,
         count: found.count,
         boxes,
     }

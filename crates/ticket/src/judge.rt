@@ -1,17 +1,16 @@
 // The judging of a ticket, field by field in the order of document 01. Each judgement is an answer of its own, and of
 // two the first refusal counts. A byte past the end reads as 0, so each test is safe even where an earlier one has
 // failed.
-use super::fields;
-use super::fields::FIRST_BOX;
-use super::fields::HEAD_BYTES;
-use super::fields::LENGTH_HEAD;
-use super::fields::LINE_HEAD;
-use super::fields::MOST_BOXES;
-use super::fields::OPERATION_HEAD;
-use super::fields::ORIGIN_HEAD;
-use super::fields::PHASE_HEAD;
-use super::fields::VECTOR_HEAD;
-use super::vector;
+use fields::value::FIRST_BOX;
+use fields::value::HEAD_BYTES;
+use fields::value::LENGTH_HEAD;
+use fields::value::LINE_HEAD;
+use fields::value::MOST_BOXES;
+use fields::value::OPERATION_HEAD;
+use fields::value::ORIGIN_HEAD;
+use fields::value::PHASE_HEAD;
+use fields::value::VECTOR_HEAD;
+use fields::vector;
 use refusal::Answer;
 use refusal::Refusal;
 use refusal::chain::first_refusal;
@@ -19,8 +18,10 @@ use refusal::chain::refuse_unless;
 use refusal::report;
 ghost use mathlib.Core.Path.{_≡_};
 ghost use Prim.Native.Nat.{_<_};
-ghost use Rattle.ticket.specs.Fields.{firstBox};
-ghost use Rattle.ticket.specs.Judging.{judgeHead, judgeSize, judgeField, operationKnown, lineKnown, isPeriodic, lengthAllowed, originAllowed, judgeOperation, judgeLine, judgeVector, judgeLength, judgeOrigin, judgePhase, judgeBox, judgeBoxes, judged};
+ghost use Rattle.fields.specs.Fields.{firstBox};
+ghost use Rattle.ticket.specs.Judging.{judgeHead, judgeSize, judgeField, operationKnown, lineKnown, isPeriodic};
+ghost use Rattle.ticket.specs.Judging.{lengthAllowed, originAllowed, judgeOperation, judgeLine, judgeVector};
+ghost use Rattle.ticket.specs.Judging.{judgeLength, judgeOrigin, judgePhase, judgeBox, judgeBoxes, judged};
 
 // The limits of document 01: the operations 1 erode to 4 close, the lines 1 connected and 2 periodic, L to 8192.
 const LAST_OPERATION: u8 = 4;
@@ -35,7 +36,7 @@ fn judge_head(s: &[u8], at: usize, tag: u8) -> Answer
     ensures { λ r. ⌜ r ≡ judgeHead (now (s .entry)) at tag ⌝ }
 {
     let ends = refuse_unless(at + HEAD_BYTES <= s.len(), Refusal::TicketEnds, at);
-    let wrong = refuse_unless(fields::byte_at(s, at) == tag, Refusal::WrongTag, at);
+    let wrong = refuse_unless(fields::value::byte_at(s, at) == tag, Refusal::WrongTag, at);
     first_refusal(ends, wrong)
 }
 
@@ -45,7 +46,7 @@ fn judge_size(s: &[u8], at: usize, size: u16) -> Answer
     ensures { λ r. ⌜ r ≡ judgeSize (now (s .entry)) at size ⌝ }
 {
     let wrong = refuse_unless(
-        fields::number_at(s, at + 1) == size,
+        fields::value::number_at(s, at + 1) == size,
         Refusal::WrongLength,
         at,
     );
@@ -99,7 +100,7 @@ fn origin_allowed(l: u16, o: u16) -> bool
 fn judge_operation(s: &[u8]) -> Answer
     ensures { λ r. ⌜ r ≡ judgeOperation (now (s .entry)) ⌝ }
 {
-    let known = operation_known(fields::operation_in(s));
+    let known = operation_known(fields::value::operation_in(s));
     first_refusal(
         judge_field(s, OPERATION_HEAD, 1, 1),
         refuse_unless(known, Refusal::Unknown, OPERATION_HEAD),
@@ -109,7 +110,7 @@ fn judge_operation(s: &[u8]) -> Answer
 fn judge_line(s: &[u8]) -> Answer
     ensures { λ r. ⌜ r ≡ judgeLine (now (s .entry)) ⌝ }
 {
-    let known = line_known(fields::line_in(s));
+    let known = line_known(fields::value::line_in(s));
     first_refusal(
         judge_field(s, LINE_HEAD, 2, 1),
         refuse_unless(known, Refusal::Unknown, LINE_HEAD),
@@ -119,8 +120,12 @@ fn judge_line(s: &[u8]) -> Answer
 fn judge_vector(s: &[u8]) -> Answer
     ensures { λ r. ⌜ r ≡ judgeVector (now (s .entry)) ⌝ }
 {
-    let periodic = is_periodic(fields::line_in(s));
-    let allowed = vector::vector_allowed(periodic, fields::dx_bits(s), fields::dy_bits(s));
+    let periodic = is_periodic(fields::value::line_in(s));
+    let allowed = vector::vector_allowed(
+        periodic,
+        fields::value::dx_bits(s),
+        fields::value::dy_bits(s),
+    );
     first_refusal(
         judge_field(s, VECTOR_HEAD, 3, 4),
         refuse_unless(allowed, Refusal::BadVector, VECTOR_HEAD),
@@ -130,7 +135,7 @@ fn judge_vector(s: &[u8]) -> Answer
 fn judge_length(s: &[u8]) -> Answer
     ensures { λ r. ⌜ r ≡ judgeLength (now (s .entry)) ⌝ }
 {
-    let allowed = length_allowed(fields::length_in(s));
+    let allowed = length_allowed(fields::value::length_in(s));
     first_refusal(
         judge_field(s, LENGTH_HEAD, 4, 2),
         refuse_unless(allowed, Refusal::BadLength, LENGTH_HEAD),
@@ -140,7 +145,7 @@ fn judge_length(s: &[u8]) -> Answer
 fn judge_origin(s: &[u8]) -> Answer
     ensures { λ r. ⌜ r ≡ judgeOrigin (now (s .entry)) ⌝ }
 {
-    let allowed = origin_allowed(fields::length_in(s), fields::origin_in(s));
+    let allowed = origin_allowed(fields::value::length_in(s), fields::value::origin_in(s));
     first_refusal(
         judge_field(s, ORIGIN_HEAD, 5, 2),
         refuse_unless(allowed, Refusal::BadOrigin, ORIGIN_HEAD),
@@ -150,12 +155,12 @@ fn judge_origin(s: &[u8]) -> Answer
 fn judge_phase(s: &[u8]) -> Answer
     ensures { λ r. ⌜ r ≡ judgePhase (now (s .entry)) ⌝ }
 {
-    let periodic = is_periodic(fields::line_in(s));
+    let periodic = is_periodic(fields::value::line_in(s));
     let allowed = vector::phase_allowed(
         periodic,
-        fields::dx_bits(s),
-        fields::dy_bits(s),
-        fields::phase_in(s),
+        fields::value::dx_bits(s),
+        fields::value::dy_bits(s),
+        fields::value::phase_in(s),
     );
     first_refusal(
         judge_field(s, PHASE_HEAD, 6, 2),
@@ -186,7 +191,7 @@ fn judge_boxes(s: &[u8]) -> Answer
         }
         let found = judge_box(s, head, k);
         if report::is_done(found) {
-            head = fields::field_end(s, head);
+            head = fields::value::field_end(s, head);
             k += 1;
         } else {
             return found;

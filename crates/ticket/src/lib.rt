@@ -1,13 +1,11 @@
 // The job ticket: what stands in it, and the nine refusals of its reader. `read` takes every string of bytes: no
 // public function has a `requires`.
-// The definitions stand in specs/: Fields (bytes and fields), Judging (the order of judging), Reading (the ticket as
-// shown). Laws has what a caller may rely on: the fields of a ticket that was read are in their ranges. The refusals
-// are crate refusal's.
+// The definitions stand in specs/: Boxes (the boxes of a ticket), Judging (the order of judging), Reading (the ticket
+// as shown). Laws has what a caller may rely on: the fields of a ticket that was read are in their ranges. The refusals
+// are crate refusal's; bytes and fields, and the rules of vector and phase, are crate fields'.
 
-mod fields; // fields.rt: bytes, numbers and places
 mod fill; // fill.rt: the ticket as shown, with its 64 box places
 mod judge; // judge.rt: the answer, field by field
-mod vector; // vector.rt: the rules of the vector and of the phase
 
 ghost use mathlib.Core.Path.{_≡_};
 ghost use Rattle.ticket.specs.Reading.{reading};

@@ -1,9 +1,5 @@
 mod Stores
-mod Lent
+pub mod Lent
 mod Painting
 mod Rectangles
-mod Tiling
-mod Pieces
-mod Lines
-mod Compact
 mod One

@@ -1,20 +1,19 @@
 -- What the promises leave open: nothing. Two results that one promise allows are the same bytes.
 -- Assumes nothing.
-use mathlib.Core.Path.{_≡_, sym, _∙_, ap, subst}
+use mathlib.Core.Path.{_≡_, sym, _∙_, subst}
 use mathlib.Core.Bool.{Bool}
 use mathlib.Core.List.{List}
 use mathlib.Core.Logic.{by-cases}
-use Prim.Native.Nat.{ℕ, _+_, _*_, _/_, _%_, _≤_, _<_}
+use Prim.Native.Nat.{ℕ, _/_, _%_, _≤_, _<_}
 use native.Mathlib.Nat.{mod-lt, div-add-mod'}
 use native.Mathlib.Decide.{decLt}
 use native.Mathlib.Omega.{arith}
 use lib.ListN.{length, getD}
 use lib.Seq.{ext-getD}
-use Rattle.placement.specs.declared.Placement.{Placement}
 use Rattle.tray.specs.declared.Layout.{Layout}
 use Rattle.tray.specs.declared.Rectangle.{Rectangle}
 use Rattle.tray.specs.Turned.{InRectangle}
-use Rattle.tray.specs.Promises.{RowFilled, RectanglePainted, BoxPainted, PageIn}
+use Rattle.tray.specs.Promises.{RowFilled, RectanglePainted, BoxPainted}
 use Rattle.tray.specs.Laws.{compact-one}
 
 pub row-filled-one :
@@ -60,12 +59,4 @@ box-painted-one lay x value before one two f g =
     in-or-out x r c
     (λ here. f .hidden r r-in c c-in here ∙ sym (g .hidden r r-in c c-in here))
     (λ out. f .shown r r-in c c-in out ∙ sym (g .shown r r-in c c-in out)))
-    (λ i l. f .rest i l ∙ sym (g .rest i l))
-
-pub page-in-one :
-    (source : List ℕ) (p : Placement) (lay : Layout) (before one two : List ℕ) → PageIn source p lay before one
-    → PageIn source p lay before two → one ≡ two
-page-in-one source p lay before one two f g =
-    compact-one lay one two (f .size ∙ sym (g .size))
-    (λ r r-in c c-in. f .pixel r r-in c c-in ∙ sym (g .pixel r r-in c c-in))
     (λ i l. f .rest i l ∙ sym (g .rest i l))

@@ -1,5 +1,6 @@
-// Pages in trays: how the rows of a page that stands in a lent tray of bytes are read and written, and how it is laid
-// out for the filter. No function reads or writes a byte of a tray outside the page that it is given.
+// Pages in trays: how the rows of a page that stands in a lent tray of bytes are read and written, and what the page
+// looks like that is laid out for the filter (`turning` does it). No function reads or writes a byte of a tray outside
+// the page that it is given.
 //
 // Where a page stands is said in `placement`. The definitions stand in specs/: Written (a tray with a page written into
 // it), Turned (the compact page), Promises (what the functions here ask and promise beside equations with these), and
@@ -9,14 +10,10 @@
 //     paint   a rectangle painted, the scratch cleared
 //     sides   the compact page's sides
 //     boxes   a box of the page painted on the compact page
-//     turn    a page taken in and laid out compactly, and back
-//     tile    sixteen by sixteen pixels transposed at a time
 pub mod boxes;
 pub mod paint;
 pub mod row;
 pub mod sides;
-mod tile;
-pub mod turn;
 
 // How a page of these sides is laid out compactly, so that lines run down the rows and drift to the right: as it is
 // where they are steep, transposed where they are not, and mirrored where they fall.

@@ -14,7 +14,7 @@ use mathlib.Core.List.{List, [], _∷_, _++_, map}
 use lib.ListN.{take, drop, replicate}
 use lib.Dec.{eqb, leb}
 use lib.IntN.{ℤ, pos, negsuc}
-use Rattle.geometry.specs.Vector.{shallow, steep, majorOf, minorOf}
+use Rattle.vectors.specs.Vector.{shallow, steep, majorOf, minorOf}
 use Rattle.geometry.specs.Line.{nearest, D, shift, period, profile, place, landing, stepOf, majorAt}
 use Rattle.geometry.specs.Number.{within, inPage, count, behind, ahead}
 use Rattle.runs.specs.Span.{chosen}
@@ -24,10 +24,12 @@ use Rattle.refusal.specs.Answer.{numberOf, placeOf, workIn, isDone, whenDone}
 use Rattle.refusal.specs.Chain.{unless, _then_}
 use Rattle.refusal.specs.declared.Answer.{Answer}
 use Rattle.refusal.specs.declared.Answer.the-variants.{Done}
-use Rattle.ticket.specs.Fields.{byteAt, numberAt, signed16, signedAt, operationIn, lineIn, dxIn, dyIn}
-use Rattle.ticket.specs.Fields.{lengthIn, originIn, phaseIn, fieldEnd, boxAt, boxesFrom, boxesIn}
-use Rattle.ticket.specs.Judging.{judgeHead, judgeSize, judgeField, operationKnown, lineKnown, isPeriodic, divided}
-use Rattle.ticket.specs.Judging.{coprime, vectorAllowed, lengthAllowed, originAllowed, phaseAllowed}
+use Rattle.fields.specs.Fields.{byteAt, numberAt, signed16, signedAt, operationIn, lineIn, dxIn, dyIn}
+use Rattle.fields.specs.Fields.{lengthIn, originIn, phaseIn, fieldEnd}
+use Rattle.fields.specs.Vectors.{divided, coprime, vectorAllowed, phaseAllowed}
+use Rattle.ticket.specs.Boxes.{boxAt, boxesFrom, boxesIn}
+use Rattle.ticket.specs.Judging.{judgeHead, judgeSize, judgeField, operationKnown, lineKnown, isPeriodic}
+use Rattle.ticket.specs.Judging.{lengthAllowed, originAllowed}
 use Rattle.ticket.specs.Judging.{judgeOperation, judgeLine, judgeVector, judgeLength, judgeOrigin, judgePhase, judgeBox}
 use Rattle.ticket.specs.Judging.{judged}
 use Rattle.ticket.specs.Judging as ticket-judging
@@ -43,10 +45,13 @@ use Rattle.filter.specs.Filters.{joined, extreme, valueAt, onLine, inWindow, pa
 use Rattle.filter.specs.Filters.{erosion, dilation, opening, closing}
 use Rattle.filter.specs.Filters.{dilated, opened, closed, operated, filtered, orWhite, recipeBoxes, filteredPage}
 use Rattle.filter.specs.Work.{charged, chargedAt, passWork, erosionWork, dilationWork, workOf}
-use Rattle.job.specs.Order.{lineOf, segmentOf, recipeOf, pagesOf}
-use Rattle.job.specs.Judging.{judgeSides, judgeSource, judgeOutput, judgeScratch, judgePageBoxesFrom, judgePageBoxes}
-use Rattle.job.specs.Judging.{judgePlaces}
-use Rattle.job.specs.Job.{finishedWith, finished, jobWork, jobScratch, answer, lengths, outputAfter, scratchAfter}
+use Rattle.job.specs.Order.{lineOf, segmentOf, recipeOf}
+use Rattle.judging.specs.Pages.{pagesOf}
+use Rattle.judging.specs.Judging.{judgeSides, judgeSource, judgeOutput, judgeScratch, judgePageBoxesFrom}
+use Rattle.judging.specs.Judging.{judgePageBoxes}
+use Rattle.judging.specs.Judging.{judgePlaces}
+use Rattle.job.specs.Job.{finishedWith, finished, jobWork, answer, lengths, outputAfter, scratchAfter}
+use Rattle.judging.specs.Pages.{jobScratch}
 
 -- ---- tickets
 

@@ -8,7 +8,7 @@ use mathlib.Core.Path.{_≡_, refl}
 use Prim.Native.Nat.{ℕ}
 use mathlib.Core.List.{List, [], _∷_, _++_}
 use lib.ListN.{replicate}
-use Rattle.geometry.specs.Vector.{shallow, steep, majorOf, minorOf}
+use Rattle.vectors.specs.Vector.{shallow, steep, majorOf, minorOf}
 use Rattle.geometry.specs.Line.{nearest, D, shift, period, profile, place, landing, stepOf, majorAt}
 use Rattle.geometry.specs.Number.{within, inPage, count, ahead}
 use Rattle.geometry.specs.Number as Number
@@ -21,10 +21,12 @@ use Rattle.refusal.specs.declared.Answer.{Answer}
 use Rattle.refusal.specs.declared.Answer.the-variants.{Done, Refused}
 use Rattle.refusal.specs.declared.Later.the-variants.{BadPixel}
 use Rattle.refusal.specs.declared.Refusal.the-variants.{BadPhase, OutputTooShort, Later}
-use Rattle.ticket.specs.Fields.{byteAt, numberAt, signed16, signedAt, operationIn, lineIn, dxIn, dyIn}
-use Rattle.ticket.specs.Fields.{lengthIn, originIn, phaseIn, fieldEnd, boxAt, boxesFrom, boxesIn}
-use Rattle.ticket.specs.Judging.{judgeHead, judgeSize, judgeField, operationKnown, lineKnown, isPeriodic, divided}
-use Rattle.ticket.specs.Judging.{coprime, vectorAllowed, lengthAllowed, originAllowed, phaseAllowed}
+use Rattle.fields.specs.Fields.{byteAt, numberAt, signed16, signedAt, operationIn, lineIn, dxIn, dyIn}
+use Rattle.fields.specs.Fields.{lengthIn, originIn, phaseIn, fieldEnd}
+use Rattle.fields.specs.Vectors.{divided, coprime, vectorAllowed, phaseAllowed}
+use Rattle.ticket.specs.Boxes.{boxAt, boxesFrom, boxesIn}
+use Rattle.ticket.specs.Judging.{judgeHead, judgeSize, judgeField, operationKnown, lineKnown, isPeriodic}
+use Rattle.ticket.specs.Judging.{lengthAllowed, originAllowed}
 use Rattle.ticket.specs.Judging.{judgeOperation, judgeLine, judgeVector, judgeLength, judgeOrigin, judgePhase, judgeBox}
 use Rattle.ticket.specs.Judging as tickets
 use Rattle.ticket.specs.Reading.{boxPlaces, shown}
@@ -36,10 +38,14 @@ use Rattle.filter.specs.Seen.{seen, turned, runsSteep}
 use Rattle.filter.specs.Filters.{joined, extreme, valueAt, onLine, inWindow, passAt, pass, eroded, dilationBack}
 use Rattle.filter.specs.Filters.{dilated, opened, closed, operated, filtered, orWhite, recipeBoxes, filteredPage}
 use Rattle.filter.specs.Work.{charged, chargedAt, passWork, erosionWork, dilationWork, workOf}
-use Rattle.job.specs.Order.{lineOf, segmentOf, recipeOf, pagesOf}
-use Rattle.job.specs.Judging.{judgeSides, judgeSource, judgeOutput, judgeScratch, judgePageBoxesFrom, judgePageBoxes}
-use Rattle.job.specs.Judging.{judgePlaces}
-use Rattle.job.specs.Job.{finishedWith, jobWork, jobScratch, lengths}
+use Rattle.job.specs.Order.{lineOf, segmentOf, recipeOf}
+use Rattle.judging.specs.Pages.{pagesOf}
+use Rattle.judging.specs.Judging.{judgeSides, judgeSource, judgeOutput, judgeScratch, judgePageBoxesFrom}
+use Rattle.judging.specs.Judging.{judgePageBoxes}
+use Rattle.judging.specs.Judging.{judgePlaces}
+use Rattle.job.specs.Job.{finishedWith, jobWork, lengths}
+use Rattle.judging.specs.Pages.{jobScratch}
+use Rattle.heading.specs.Writing.{decimalIn, decimal, line, headerOf}
 use Rattle.pgm.specs.Bytes.{isSpace, isDigit, isHash, isLineEnd, uncommented, bytesFrom, firstPlace, startsWith}
 use Rattle.pgm.specs.Bytes.{behind, numeral}
 use Rattle.pgm.specs.Header.{digits, numberIn, behindNumber, judgeNumber, fromWidth, fromHeight, fromMaximum}
@@ -47,7 +53,6 @@ use Rattle.pgm.specs.Header.{fromDelimiter, widthIn, heightIn, maximumIn, maxim
 use Rattle.pgm.specs.Header.{judgeMagic, judgeFromMaximum, judgeHeader, judgeMaximum}
 use Rattle.pgm.specs.Reading.{soundPixels, imagePixels, judgePixels, told, headerIn}
 use Rattle.pgm.specs.Reading as pgm
-use Rattle.pgm.specs.Writing.{decimalIn, decimal, line, headerOf}
 use Rattle.file.specs.FileJob.{filePage, fileAnswer, delivery, fileOutputAfter, fileScratchAfter}
 use Rattle.file.specs.Places.{headerFor, placesOf, fileLength, headed}
 use Rattle.file.specs.declared.Delivery.{Delivery}

@@ -11,7 +11,7 @@ use native.Mathlib.Decide.{decLe, decLt}
 use native.Mathlib.Omega.{arith}
 use borrow.Author.Tests.{leb-true, leb-false, le-leb, lt-leb, not-true, not-false}
 use lib.Dec.{ltb, leb}
-use Rattle.geometry.specs.Vector.{majorOf}
+use Rattle.vectors.specs.Vector.{majorOf}
 use Rattle.geometry.specs.Line.{period, landing, stepOf, majorAt}
 use Rattle.geometry.specs.Number.{inPage, behind, ahead}
 use Rattle.geometry.specs.Drift.{Sound, Inside, First, falls, drift, mirrored, first, reach}

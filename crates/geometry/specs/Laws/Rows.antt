@@ -7,7 +7,7 @@ use native.Mathlib.Nat.{le-trans, mul-le-mul-left, mul-le-mul-right, sub-self, z
 use native.Mathlib.Omega.{arith}
 use lib.IntN.{ℤ, pos, negsuc, natAbs, _-ℤ_, _*ℤ_}
 use lib.Signed.{nonNeg}
-use Rattle.geometry.specs.Vector.{majorOf, minorOf}
+use Rattle.vectors.specs.Vector.{majorOf, minorOf}
 use Rattle.geometry.specs.Line.{nearest, shift, period, profile}
 use Rattle.geometry.specs.Drift.{Sound, falls, drift, signed}
 use Rattle.geometry.specs.Laws.Integers.{size-signed, signed-minus}

@@ -8,7 +8,7 @@ use native.Mathlib.Omega.{arith}
 use borrow.Author.Tests.{ltb-true, leb-true}
 use lib.Dec.{leb, ltb}
 use lib.IntN.{ℤ, pos, negsuc, natAbs}
-use Rattle.geometry.specs.Vector.{shallow, steep, Shallow, Steep, majorOf, minorOf}
+use Rattle.vectors.specs.Vector.{shallow, steep, Shallow, Steep, majorOf, minorOf}
 
 pub shallow-is : (dx dy : ℤ) → shallow dx dy ≡ true → Shallow dx dy
 unfolding shallow

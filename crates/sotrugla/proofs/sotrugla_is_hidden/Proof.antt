@@ -9,7 +9,7 @@ use Rattle.ticket.specs.Reading.{reading}
 use Rattle.ticket.specs.declared.Reading.{Reading}
 use Rattle.boxes.specs.Boxes.{hidden, boxesOf}
 use Rattle.sotrugla.specs.Hiding.{hiddenBy}
-use Rattle.sotrugla.proofs.Numbers.{read-showable}
+use Rattle.showing.specs.Laws.{read-showable}
 use Rattle.sotrugla.proofs.sotrugla_is_hidden.Statement.{statement}
 use Rattle.sotrugla.proofs.sotrugla_is_hidden.Tie as tie
 

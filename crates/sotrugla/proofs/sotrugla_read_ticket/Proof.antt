@@ -2,7 +2,7 @@
 use native.Mathlib.Omega.{arith}
 use borrow.Author.Needs.{needs}
 use denote.Ref.{now}
-use Rattle.sotrugla.proofs.Numbers.{read-showable, too-short, long-enough}
+use Rattle.showing.specs.Laws.{read-showable, too-short, long-enough}
 use Rattle.sotrugla.proofs.sotrugla_read_ticket.Statement.{statement}
 use Rattle.sotrugla.proofs.sotrugla_read_ticket.Tie as tie
 

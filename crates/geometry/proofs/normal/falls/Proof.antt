@@ -7,7 +7,7 @@ use lib.Signed.{ltZ, nonNeg}
 use borrow.Author.Needs.{needs}
 use borrow.Author.Tests.{le-ltb}
 use native.Mathlib.Omega.{arith}
-use Rattle.geometry.specs.Vector.{minorOf}
+use Rattle.vectors.specs.Vector.{minorOf}
 use Rattle.geometry.specs.Drift.{falls}
 use Rattle.geometry.proofs.Profiles.{minor-back}
 use Rattle.geometry.proofs.normal.falls.Statement.{statement}

@@ -3,7 +3,7 @@
 use mathlib.Core.Path.{sym, ap, _∙_}
 use mathlib.Core.Bool.{Bool, cond}
 use borrow.Author.Needs.{needs}
-use Rattle.geometry.specs.Vector.{majorOf}
+use Rattle.vectors.specs.Vector.{majorOf}
 use Rattle.geometry.specs.Line.{period}
 use Rattle.geometry.proofs.Profiles.{along}
 use Rattle.geometry.proofs.normal.period_of.Statement.{statement}

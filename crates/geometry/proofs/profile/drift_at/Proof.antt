@@ -7,13 +7,13 @@ use native.Mathlib.Nat.{mul-le-mul}
 use native.Mathlib.Omega.{arith}
 use lib.IntN.{ℤ, natAbs}
 use borrow.Author.Needs.{needs}
-use Rattle.geometry.specs.Vector.{majorOf, minorOf}
+use Rattle.vectors.specs.Vector.{majorOf, minorOf}
+use Rattle.vectors.proofs.Bits.{back}
 use Rattle.geometry.specs.Line.{nearest}
 use Rattle.geometry.specs.Drift.{Allowed, drift}
 use Rattle.geometry.specs.Tables.{Slight}
 use Rattle.geometry.specs.Laws.Rows.{drift-periodic, drift-connected}
 use Rattle.geometry.specs.declared.Line.{Line}
-use Rattle.geometry.proofs.Bits.{back}
 use Rattle.geometry.proofs.Profiles.{along, minor-back, minor-low, slight}
 use Rattle.geometry.proofs.profile.drift_at.Statement.{statement}
 use Rattle.geometry.proofs.profile.drift_at.Tie as tie

@@ -1,7 +1,7 @@
 -- `job::job::finish` meets its contract: filtered, then cleared. Assumes nothing.
 use native.Mathlib.Omega.{arith}
 use borrow.Author.Needs.{needs}
-use Rattle.job.specs.Laws.{pages-most}
+use Rattle.judging.specs.Laws.{pages-most}
 use Rattle.job.proofs.Running.{fits-all, sides-most, used-room, finished-all, needed-as}
 use Rattle.job.proofs.job.finish.Statement.{statement}
 use Rattle.job.proofs.job.finish.Tie as tie

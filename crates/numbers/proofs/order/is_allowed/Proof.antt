@@ -9,7 +9,7 @@ use lib.IntN.{ℤ, natAbs}
 use mir.Syntax.{w32}
 use mir.Val.{SFits}
 use mir.ValLaws.{toZ-ofZ}
-use Rattle.geometry.specs.Vector.{shallow, steep}
+use Rattle.vectors.specs.Vector.{shallow, steep}
 use Rattle.geometry.specs.Laws.{sound, allowed}
 use Rattle.numbers.proofs.Components.{of-parts}
 use Rattle.numbers.proofs.order.is_allowed.Statement.{statement}

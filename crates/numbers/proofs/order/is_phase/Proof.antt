@@ -5,7 +5,7 @@ use Prim.Native.Nat.{_<_}
 use native.Mathlib.Omega.{arith}
 use borrow.Author.Needs.{needs}
 use borrow.Author.Tests.{ltb-true}
-use Rattle.geometry.specs.Vector.{majorOf}
+use Rattle.vectors.specs.Vector.{majorOf}
 use Rattle.numbers.proofs.Components.{of-parts}
 use Rattle.numbers.proofs.order.is_phase.Statement.{statement}
 use Rattle.numbers.proofs.order.is_phase.Tie as tie

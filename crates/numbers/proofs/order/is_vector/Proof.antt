@@ -3,7 +3,7 @@
 use mathlib.Core.Path.{_≡_, sym, ap, _∙_}
 use mathlib.Core.Bool.{Bool, _||_}
 use borrow.Author.Needs.{needs}
-use Rattle.geometry.specs.Vector.{shallow, steep}
+use Rattle.vectors.specs.Vector.{shallow, steep}
 use Rattle.numbers.proofs.Components.{of-parts}
 use Rattle.numbers.proofs.order.is_vector.Statement.{statement}
 use Rattle.numbers.proofs.order.is_vector.Tie as tie

@@ -1,7 +1,7 @@
 -- `sotrugla::lists::sotrugla_run_tray` meets its contract: the call's promise, in numbers. Assumes nothing.
 use mathlib.Core.Path.{ap, _∙_}
 use borrow.Author.Needs.{needs}
-use Rattle.sotrugla.specs.Outcome.{outcomeOf}
+use Rattle.showing.specs.Outcome.{outcomeOf}
 use Rattle.sotrugla.proofs.lists.sotrugla_run_tray.Statement.{statement}
 use Rattle.sotrugla.proofs.lists.sotrugla_run_tray.Tie as tie
 

@@ -1,6 +1,6 @@
 -- `ticket::fill::box_at` meets its contract. Assumes nothing.
 use borrow.Author.Needs.{needs}
-use Rattle.ticket.specs.Fields.{boxAt}
+use Rattle.ticket.specs.Boxes.{boxAt}
 use Rattle.ticket.proofs.fill.box_at.Statement.{statement}
 use Rattle.ticket.proofs.fill.box_at.Tie as tie
 

@@ -1,7 +1,7 @@
 -- `ticket::fill::show` meets its contract. Assumes nothing.
 use borrow.Author.Needs.{needs}
 use denote.Ref.{now}
-use Rattle.ticket.proofs.Signs.{kept}
+use Rattle.fields.proofs.Signs.{kept}
 use Rattle.ticket.proofs.Records.{ticket-shown}
 use Rattle.ticket.proofs.fill.show.Statement.{statement}
 use Rattle.ticket.proofs.fill.show.Tie as tie

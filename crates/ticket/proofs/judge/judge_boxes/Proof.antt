@@ -4,7 +4,7 @@ use mathlib.Core.Path.{_≡_, sym, _∙_}
 use Prim.Native.Nat.{_+_, _-_, _*_, _≤_}
 use native.Mathlib.Omega.{arith}
 use denote.Ref.{now}
-use Rattle.ticket.specs.Fields.{firstBox}
+use Rattle.fields.specs.Fields.{firstBox}
 use Rattle.ticket.specs.Judging.{judgeBoxes}
 use Rattle.ticket.proofs.Boxes.{rest, rest-over, rest-on, rest-stop, rest-none}
 use Rattle.ticket.proofs.judge.judge_boxes.Statement.{statement}

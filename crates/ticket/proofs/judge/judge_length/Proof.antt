@@ -2,7 +2,7 @@
 use borrow.Author.Needs.{needs}
 use mathlib.Core.Path.{ap, _∙_}
 use Rattle.ticket.specs.Judging.{judgeLength, lengthAllowed}
-use Rattle.ticket.specs.Fields.{lengthHead}
+use Rattle.fields.specs.Fields.{lengthHead}
 use Rattle.refusal.specs.declared.Refusal.the-variants.{BadLength}
 use Rattle.ticket.proofs.Chains.{field-judged}
 use Rattle.ticket.proofs.judge.judge_length.Statement.{statement}

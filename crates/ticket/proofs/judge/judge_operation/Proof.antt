@@ -2,7 +2,7 @@
 use borrow.Author.Needs.{needs}
 use mathlib.Core.Path.{ap, _∙_}
 use Rattle.ticket.specs.Judging.{judgeOperation, operationKnown}
-use Rattle.ticket.specs.Fields.{operationHead}
+use Rattle.fields.specs.Fields.{operationHead}
 use Rattle.refusal.specs.declared.Refusal.the-variants.{Unknown}
 use Rattle.ticket.proofs.Chains.{field-judged}
 use Rattle.ticket.proofs.judge.judge_operation.Statement.{statement}

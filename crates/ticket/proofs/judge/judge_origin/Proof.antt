@@ -2,7 +2,7 @@
 use borrow.Author.Needs.{needs}
 use mathlib.Core.Path.{ap₂, _∙_}
 use Rattle.ticket.specs.Judging.{judgeOrigin, originAllowed}
-use Rattle.ticket.specs.Fields.{originHead}
+use Rattle.fields.specs.Fields.{originHead}
 use Rattle.refusal.specs.declared.Refusal.the-variants.{BadOrigin}
 use Rattle.ticket.proofs.Chains.{field-judged}
 use Rattle.ticket.proofs.judge.judge_origin.Statement.{statement}

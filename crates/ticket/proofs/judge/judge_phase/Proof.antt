@@ -1,6 +1,6 @@
 -- `ticket::judge::judge_phase` meets its contract. Assumes nothing.
 use borrow.Author.Needs.{needs}
-use Rattle.ticket.specs.Fields.{dxIn, dyIn, signedAt}
+use Rattle.fields.specs.Fields.{dxIn, dyIn, signedAt}
 use Rattle.ticket.specs.Judging.{judgePhase}
 use Rattle.ticket.proofs.judge.judge_phase.Statement.{statement}
 use Rattle.ticket.proofs.judge.judge_phase.Tie as tie

@@ -1,6 +1,6 @@
 -- `ticket::judge::judge_vector` meets its contract. Assumes nothing.
 use borrow.Author.Needs.{needs}
-use Rattle.ticket.specs.Fields.{dxIn, dyIn, signedAt}
+use Rattle.fields.specs.Fields.{dxIn, dyIn, signedAt}
 use Rattle.ticket.specs.Judging.{judgeVector}
 use Rattle.ticket.proofs.judge.judge_vector.Statement.{statement}
 use Rattle.ticket.proofs.judge.judge_vector.Tie as tie

@@ -1,0 +1,3 @@
+mod Divisors
+pub mod Signs
+mod Vectors

@@ -1,0 +1,4 @@
+pub mod Outcome
+pub mod Shown
+pub mod Laws
+pub mod Worked

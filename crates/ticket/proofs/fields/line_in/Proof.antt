@@ -1,9 +1,0 @@
--- `ticket::fields::line_in` meets its contract. Assumes nothing.
-use borrow.Author.Needs.{needs}
-use Rattle.ticket.specs.Fields.{lineIn}
-use Rattle.ticket.proofs.fields.line_in.Statement.{statement}
-use Rattle.ticket.proofs.fields.line_in.Tie as tie
-
-pub line-in-spec : {M : Type 1} → statement M
-unfolding lineIn
-line-in-spec = tie.close (tie.spec (λ c. search needs) (λ c. search needs) (λ c. search needs))

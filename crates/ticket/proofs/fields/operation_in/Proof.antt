@@ -1,9 +1,0 @@
--- `ticket::fields::operation_in` meets its contract. Assumes nothing.
-use borrow.Author.Needs.{needs}
-use Rattle.ticket.specs.Fields.{operationIn}
-use Rattle.ticket.proofs.fields.operation_in.Statement.{statement}
-use Rattle.ticket.proofs.fields.operation_in.Tie as tie
-
-pub operation-in-spec : {M : Type 1} → statement M
-unfolding operationIn
-operation-in-spec = tie.close (tie.spec (λ c. search needs) (λ c. search needs) (λ c. search needs))

@@ -1,9 +1,0 @@
--- `ticket::fields::origin_in` meets its contract. Assumes nothing.
-use borrow.Author.Needs.{needs}
-use Rattle.ticket.specs.Fields.{originIn}
-use Rattle.ticket.proofs.fields.origin_in.Statement.{statement}
-use Rattle.ticket.proofs.fields.origin_in.Tie as tie
-
-pub origin-in-spec : {M : Type 1} → statement M
-unfolding originIn
-origin-in-spec = tie.close (tie.spec (λ c. search needs) (λ c. search needs) (λ c. search needs))

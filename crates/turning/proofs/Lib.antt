@@ -1,0 +1,6 @@
+mod Copies
+mod Tiling
+mod Pieces
+mod Lines
+mod Compact
+mod One

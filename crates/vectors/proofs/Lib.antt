@@ -1,0 +1,3 @@
+-- What the proofs of several functions use, here and in `geometry`.
+pub mod Bits
+pub mod Vectors
