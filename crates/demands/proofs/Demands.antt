@@ -15,6 +15,9 @@ use Rattle.demands.proofs.Files as files
 use Rattle.demands.proofs.ExactFiles as exactly
 use Rattle.demands.proofs.Lists as lists
 use Rattle.demands.proofs.ListAnswers as told
+use Rattle.demands.proofs.WhyAnswers as asked
+use Rattle.demands.proofs.Why as why
+use Rattle.demands.proofs.WhyReach as nearby
 
 pub demands : Demands
 demands =
@@ -96,4 +99,17 @@ demands =
       list-reach = lists.list-reach;
       list-page-alone = lists.list-page-alone;
       list-exact = lists.list-exact;
+      why-refused = asked.why-refused;
+      why-off-page = asked.why-off-page;
+      why-nineteen = asked.why-nineteen;
+      why-done = asked.why-done;
+      why-box = asked.why-box;
+      names-one = why.names-one;
+      why-erosion = why.why-erosion;
+      why-dilation = why.why-dilation;
+      why-opening = why.why-opening;
+      why-closing = why.why-closing;
+      why-same = asked.why-same;
+      why-same-refused = asked.why-same-refused;
+      why-reach = nearby.why-reach;
     }

@@ -15,7 +15,7 @@ use Rattle.geometry.specs.declared.Line.{Line}
 use Rattle.runs.specs.Span.{best}
 use Rattle.filter.specs.Seen.{View}
 use Rattle.filter.specs.Filters.{joined, extreme, valueAt, onLine, inWindow, passAt, pass}
-use Rattle.demands.proofs.OnLines.{own-value, same-line}
+use Rattle.filter.specs.Laws.{own-on-line, same-line}
 use Rattle.demands.proofs.ExactNumbers.{twice}
 
 -- where all values are there, the extreme is the best of their numbers
@@ -84,7 +84,7 @@ module _ (l : Line) (sound : Sound l) (M m : ℕ) where
         pass (not low) l b (suc (a + b)) (pass low l a (suc (a + b)) page) M m ≡ some (twice low a b f (stepOf l M))
     unfolding twice
     twice-on =
-        sym (own-value l sound (pass (not low) l b (suc (a + b)) (pass low l a (suc (a + b)) page)) M m)
+        sym (own-on-line l sound (pass (not low) l b (suc (a + b)) (pass low l a (suc (a + b)) page)) M m)
         ∙ pass-on (not low) b (a + b) (pass low l a (suc (a + b)) page) (λ (y : ℕ). best low f (y - a) (a + b))
         (stepOf l M)
         (best low f (stepOf l M - a) (a + b))

@@ -24,6 +24,7 @@ use Rattle.tray.specs.Turned.{downOf, acrossOf}
 use Rattle.tray.specs.Written.{written}
 use Rattle.tray.specs.Laws.{length-written, written-at, written-pixel}
 use Rattle.filter.specs.Seen.{View, runsSteep}
+use Rattle.filter.specs.Axes.{turned-back, down-back, across-back}
 use Rattle.filter.specs.Filters.{valueAt, onLine, pass, eroded, dilationBack, dilated, opened, closed, operated}
 use Rattle.filter.specs.Filters.{orWhite}
 use Rattle.job.specs.Order.{lineOf, segmentOf}
@@ -31,7 +32,6 @@ use Rattle.job.specs.Job.{finishedWith}
 use Rattle.job.specs.Laws.{line-sound}
 use Rattle.demands.specs.Near.{majorPlace, minorPlace, stepAt, FewerSteps, Near}
 use Rattle.demands.specs.Exact.{OpensOrCloses, Clear, ClearSteps}
-use Rattle.demands.proofs.Axes.{turned-back, down-back, across-back}
 use Rattle.demands.proofs.Pages.{seenIn, alongIn, finished-at, seen-there}
 use Rattle.demands.proofs.Near.{near-in, near-step}
 use Rattle.demands.proofs.ExactNumbers.{winner, winner-small, picked-small, twice, run, run-small, changed}

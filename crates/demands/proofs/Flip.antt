@@ -18,6 +18,7 @@ use Rattle.placement.specs.Placement.{pixelIn}
 use Rattle.tray.specs.Turned.{downOf, acrossOf}
 use Rattle.tray.specs.Laws.{across-in}
 use Rattle.filter.specs.Seen.{View, seen, turned, runsSteep}
+use Rattle.filter.specs.Axes.{turned-is}
 use Rattle.filter.specs.Filters.{operated, filtered, orWhite}
 use Rattle.filter.specs.Absence.{seen-wide, seen-low, seen-hidden, seen-shown, absent-turned}
 use Rattle.filter.specs.Work.{workOf}
@@ -26,7 +27,6 @@ use Rattle.job.specs.Order.{lineOf, segmentOf}
 use Rattle.job.specs.Job.{jobWork}
 use Rattle.job.specs.Laws.{finished-is}
 use Rattle.demands.specs.Flip.{flippedBox, OnPage, FlippedTicket, FlippedPage, FlippedWork}
-use Rattle.demands.proofs.Axes.{turned-is}
 use Rattle.demands.proofs.FlipBoxes.{hidden-flipped}
 use Rattle.demands.proofs.FlipViews.{Runs, flippedSegment, Mirrors, operated-mirrors, steep-same, work-flipped}
 

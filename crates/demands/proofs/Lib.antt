@@ -1,8 +1,6 @@
 -- The proofs of the statements in specs/. Demands names the proof of each.
 pub mod Demands
 -- laws of lines, of the two axes and of the page in a tray
-mod Axes
-mod OnLines
 mod Pages
 mod Near
 -- the answer, the trays and the work
@@ -31,3 +29,7 @@ mod ExactWorked
 -- lists of jobs
 mod Lists
 mod ListAnswers
+-- why a pixel came out so
+mod WhyAnswers
+mod Why
+mod WhyReach

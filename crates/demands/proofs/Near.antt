@@ -12,10 +12,10 @@ use Rattle.geometry.specs.Laws.{same-steps, landed-on-page}
 use Rattle.geometry.specs.declared.Line.{Line}
 use Rattle.tray.specs.Laws.{down-in, across-in}
 use Rattle.filter.specs.Seen.{runsSteep}
+use Rattle.filter.specs.Axes.{turned-in}
 use Rattle.job.specs.Order.{lineOf}
 use Rattle.job.specs.Laws.{line-sound}
 use Rattle.demands.specs.Near.{majorPlace, minorPlace, NearIn, NearSelf, NearStep, NearBack}
-use Rattle.demands.proofs.Axes.{turned-in}
 
 pub near-in : NearIn
 near-in t p c r c′ r′ n =

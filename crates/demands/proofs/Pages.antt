@@ -10,13 +10,13 @@ use Rattle.boxes.specs.Boxes.{hidden, boxesOf}
 use Rattle.placement.specs.Placement.{pixelIn}
 use Rattle.placement.specs.declared.Placement.{Placement}
 use Rattle.filter.specs.Seen.{View, seen, turned, runsSteep}
+use Rattle.filter.specs.Axes.{turned-is}
 use Rattle.filter.specs.Filters.{operated, filtered, orWhite}
 use Rattle.filter.specs.Absence.{seen-hidden, seen-shown}
 use Rattle.job.specs.Order.{lineOf, segmentOf}
 use Rattle.job.specs.Job.{finishedWith}
 use Rattle.job.specs.Laws.{finished-is}
 use Rattle.demands.specs.Near.{majorPlace, minorPlace}
-use Rattle.demands.proofs.Axes.{turned-is}
 
 -- the page by column and row
 abbrev pub seenIn : Ticket → Placement → List ℕ → View

@@ -20,13 +20,13 @@ use Rattle.placement.specs.declared.Placement.{Placement}
 use Rattle.tray.specs.Turned.{downOf, acrossOf}
 use Rattle.tray.specs.Laws.{down-in, across-in}
 use Rattle.filter.specs.Seen.{seen, runsSteep}
+use Rattle.filter.specs.Axes.{turned-is, turned-back, down-back, across-back}
 use Rattle.filter.specs.Filters.{valueAt, onLine, orWhite}
 use Rattle.job.specs.Order.{lineOf, segmentOf, white}
 use Rattle.job.specs.Job.{finishedWith, lengths}
 use Rattle.job.specs.Laws.{finished-allowed, line-sound, output-pixel}
 use Rattle.demands.specs.Near.{majorPlace, minorPlace, Near}
 use Rattle.demands.specs.Reach.{AgreeNear, AgreeOnPage, Reach, PageAlone, HiddenWhite}
-use Rattle.demands.proofs.Axes.{turned-is, turned-back, down-back, across-back}
 use Rattle.demands.proofs.Near.{near-in}
 use Rattle.demands.proofs.Pages.{seenIn, alongIn, finished-at, seen-none}
 use Rattle.demands.proofs.Same.{same-answer}
@@ -99,7 +99,7 @@ module _ (t : Ticket) (p : Placement) (source source′ : List ℕ) (c r : ℕ)
   by-place s none there h k = refl
   by-place s (some m′) there h k = seen-same s m′ there h k
 
-  steps-same :
+  pub steps-same :
       (s : ℕ) → stepOf l M < s + t .length → s < stepOf l M + t .length
       → onLine l (alongIn t p source) M m s ≡ onLine l (alongIn t p source′) M m s
   unfolding onLine

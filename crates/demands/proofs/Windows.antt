@@ -1,10 +1,10 @@
 -- What a filter's windows reach: a pass looks at its window only, and two windows end to end reach L - 1 steps each
 -- way.
 -- Assumes nothing.
-use mathlib.Core.Path.{_≡_, refl, sym, ap, ap₂, _∙_}
+use mathlib.Core.Path.{_≡_, refl, sym, ap, _∙_}
 use mathlib.Core.Bool.{Bool, true, false, cond}
 use mathlib.Core.Option.{Option, none, some}
-use Prim.Native.Nat.{ℕ, zero, suc, _+_, _-_, _≤_, _<_}
+use Prim.Native.Nat.{ℕ, suc, _+_, _-_, _≤_, _<_}
 use native.Mathlib.Omega.{arith}
 use borrow.Author.Tests.{leb-true}
 use lib.Dec.{leb, eqb}
@@ -13,21 +13,12 @@ use Rattle.geometry.specs.Drift.{Sound}
 use Rattle.geometry.specs.Laws.{step-of-major}
 use Rattle.geometry.specs.declared.Line.{Line}
 use Rattle.filter.specs.Seen.{View}
-use Rattle.filter.specs.Filters.{joined, extreme, valueAt, onLine, inWindow, passAt, pass, eroded, dilationBack}
+use Rattle.filter.specs.Filters.{valueAt, onLine, inWindow, passAt, pass, eroded, dilationBack}
 use Rattle.filter.specs.Filters.{dilated, opened, closed, erosion, dilation, opening, closing, operated}
+use Rattle.filter.specs.Laws.{extreme-same, pass-absent, own-on-line, same-line}
 use Rattle.filter.specs.declared.Segment.{Segment}
-use Rattle.demands.proofs.OnLines.{own-value, same-line}
 
 -- ---- one pass
-
-extreme-same :
-    (low : Bool) (value value′ : ℕ → Option ℕ) (k n : ℕ) → ((q : ℕ) → k ≤ q → q < k + n → value q ≡ value′ q)
-    → extreme low value k n ≡ extreme low value′ k n
-unfolding extreme
-extreme-same low value value′ k zero same = refl
-extreme-same low value value′ k (suc n) same =
-    ap₂ (joined low) (same k (omega arith) (omega arith))
-    (extreme-same low value value′ (suc k) n (λ q h b. same q (omega arith) (omega arith)))
 
 module _ (l : Line) (ok : Sound l) where
   -- two pages that agree on a window's steps, from a steps back to L - 1 - a on
@@ -42,7 +33,7 @@ module _ (l : Line) (ok : Sound l) where
         same (stepOf l M + k - a) (omega arith) (omega arith)
     by-edge k false e h = refl
 
-    window-same : (k : ℕ) → k < L → inWindow l page a M m k ≡ inWindow l page′ a M m k
+    pub window-same : (k : ℕ) → k < L → inWindow l page a M m k ≡ inWindow l page′ a M m k
     unfolding inWindow
     window-same k h = by-edge k _ refl h
 
@@ -56,7 +47,7 @@ module _ (l : Line) (ok : Sound l) where
     unfolding pass
     pass-same low short =
         let own : page M m ≡ page′ M m =
-        sym (own-value l ok page M m) ∙ same (stepOf l M) (omega arith) (omega arith) ∙ own-value l ok page′ M m in
+        sym (own-on-line l ok page M m) ∙ same (stepOf l M) (omega arith) (omega arith) ∙ own-on-line l ok page′ M m in
         ap (passAt low l a L page M m) own ∙ by-value low (page′ M m)
 
 -- ---- two passes
@@ -96,7 +87,7 @@ module _ (l : Line) (ok : Sound l) (L M m : ℕ) (page page′ : View)
     by-landing s none there h k = refl
     by-landing s (some m′) there h k = first-same s m′ there h k
 
-    line-same :
+    pub line-same :
         (s : ℕ) → stepOf l M ≤ s + b → s + b < stepOf l M + L
         → onLine l (pass one l a L page) M m s ≡ onLine l (pass one l a L page′) M m s
     unfolding onLine
@@ -142,11 +133,6 @@ module _ (segment : Segment) (ok : Sound (segment .line)) (short : segment .orig
         (twice-same l ok L M m page page′ same false true back o whole-close) refl)))
 
 -- ---- an absent pixel stays absent
-
-pass-absent :
-    (low : Bool) (l : Line) (a n : ℕ) (page : View) (M m : ℕ) → page M m ≡ none → pass low l a n page M m ≡ none
-unfolding pass passAt
-pass-absent low l a n page M m e = ap (passAt low l a n page M m) e
 
 cond-none : (b : Bool) (f g : View) (M m : ℕ) → f M m ≡ none → g M m ≡ none → cond b f g M m ≡ none
 cond-none true f g M m h k = h

@@ -1,19 +1,19 @@
 -- What others may use of the filters, with the definitions left shut: what the extreme of a window is, which steps see
 -- each other through a window and through the reflected one, and what becomes of a pixel that is absent or there.
 -- Assumes nothing.
-use mathlib.Core.Path.{_≡_, refl, sym, ap, _∙_}
+use mathlib.Core.Path.{_≡_, refl, sym, ap, ap₂, _∙_}
 use mathlib.Core.Bool.{Bool, true, false, cond}
 use mathlib.Core.Logic.{_⊎_, inl, inr, ⊎-elim, by-cases}
 use mathlib.Core.Option.{Option, none, some, Option·some-injective, Option·none-ne-some}
 use Prim.Native.Nat.{ℕ, zero, suc, _+_, _-_, _≤_, _<_}
-use native.Mathlib.Nat.{add-sub-cancel}
+use native.Mathlib.Nat.{add-suc, add-sub-cancel}
 use native.Mathlib.Decide.{decLt, decLe}
 use native.Mathlib.Omega.{arith}
 use borrow.Author.Tests.{le-leb, lt-leb}
 use lib.Dec.{leb}
-use Rattle.geometry.specs.Line.{stepOf, majorAt}
+use Rattle.geometry.specs.Line.{landing, stepOf, majorAt}
 use Rattle.geometry.specs.Drift.{Sound}
-use Rattle.geometry.specs.Laws.{own-landing, major-at-step}
+use Rattle.geometry.specs.Laws.{own-landing, major-at-step, major-of-major, step-of-major, landing-onward}
 use Rattle.geometry.specs.declared.Line.{Line}
 use Rattle.runs.specs.Span.{chosen, chosen-assoc}
 use Rattle.filter.specs.Seen.{View}
@@ -114,6 +114,27 @@ extreme-bound low value k (suc n) q v w found from to e =
   where
     same : ¬ (k < q) → k ≡ q
     same h = omega arith
+
+-- windows with the same values have the same extreme
+pub extreme-same :
+    (low : Bool) (value value′ : ℕ → Option ℕ) (k n : ℕ) → ((q : ℕ) → k ≤ q → q < k + n → value q ≡ value′ q)
+    → extreme low value k n ≡ extreme low value′ k n
+unfolding extreme
+extreme-same low value value′ k zero same = refl
+extreme-same low value value′ k (suc n) same =
+    ap₂ (joined low) (same k (omega arith) (omega arith))
+    (extreme-same low value value′ (suc k) n (λ q h b. same q (omega arith) (omega arith)))
+
+-- also where the values stand d places further on
+pub extreme-shifted :
+    (low : Bool) (value value′ : ℕ → Option ℕ) (d k n : ℕ) → ((q : ℕ) → k ≤ q → q < k + n → value q ≡ value′ (d + q))
+    → extreme low value k n ≡ extreme low value′ (d + k) n
+unfolding extreme
+extreme-shifted low value value′ d k zero same = refl
+extreme-shifted low value value′ d k (suc n) same =
+    ap₂ (joined low) (same k (omega arith) (omega arith))
+    (extreme-shifted low value value′ d (suc k) n (λ q h b. same q (omega arith) (omega arith))
+    ∙ ap (λ (q : ℕ). extreme low value′ q n) (add-suc d k))
 
 -- one of the n values from the k-th on is w
 pub record Attained (value : ℕ → Option ℕ) (k n w : ℕ) : Type 0 where
@@ -228,6 +249,14 @@ unfolding onLine valueAt
 own-on-line l sound page M m =
     ap (valueAt page (majorAt l M (stepOf l M))) (own-landing l M m)
     ∙ ap (λ (R : ℕ). page R m) (major-at-step l sound M)
+
+-- the line through another of its pixels is the same line
+pub same-line : (l : Line) → Sound l → (page : View) (M m s m′ r : ℕ) → landing l m (stepOf l M) s ≡ some m′
+    → onLine l page (majorAt l M s) m′ r ≡ onLine l page M m r
+unfolding onLine
+same-line l sound page M m s m′ r there =
+    ap₂ (valueAt page) (major-of-major l sound M s r)
+    (ap (λ (q : ℕ). landing l m′ q r) (step-of-major l sound M s) ∙ landing-onward l m (stepOf l M) s r m′ there)
 
 -- the pixel itself is in its window, a steps after the first
 pub own-value : (l : Line) → Sound l → (page : View) (a M m : ℕ) → inWindow l page a M m a ≡ page M m

@@ -1,4 +1,5 @@
 pub mod Seen
+pub mod Axes
 pub mod Filters
 pub mod Work
 pub mod Sums

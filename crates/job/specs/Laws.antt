@@ -3,11 +3,15 @@
 use mathlib.Core.Path.{_≡_, refl, ap, _∙_}
 use mathlib.Core.Bool.{true}
 use mathlib.Core.List.{List}
-use Prim.Native.Nat.{ℕ, _<_}
+use mathlib.Core.Logic.{by-cases}
+use Prim.Native.Nat.{ℕ, _≤_, _<_}
+use native.Mathlib.Decide.{decLe}
 use native.Mathlib.Omega.{arith}
 use lib.ListN.{length, getD}
+use Rattle.vectors.specs.Vector.{majorOf}
+use Rattle.geometry.specs.Drift as lines
 use Rattle.geometry.specs.Drift.{Sound}
-use Rattle.geometry.specs.Laws.{sound}
+use Rattle.geometry.specs.Laws.{sound, allowed, phase-allowed}
 use Rattle.refusal.specs.Answer.{isDone}
 use Rattle.refusal.specs.Chain.{_then_, then-work, done-work, when-done}
 use Rattle.refusal.specs.declared.Answer.{Answer}
@@ -61,6 +65,23 @@ finished-allowed ticket p n work bytes e = good-allowed ticket bytes (finished-j
 pub line-sound : (t : Ticket) → Allowed t → Sound (lineOf t)
 unfolding lineOf
 line-sound t ok = sound (lineOf t) (ok .runs)
+
+phase-below : (t : Ticket) → Allowed t → t .phase < majorOf (t .dx) (t .dy)
+unfolding lineOf
+phase-below t ok =
+    by-cases (decLe (t .line) 1)
+    (λ h.
+    let one : t .line ≡ 1 = omega (arith, ok .line-from) in
+    phase-allowed (t .dx) (t .dy) (t .phase) (ok .runs) (ok .connected-phase one))
+    (λ h.
+    let two : t .line ≡ 2 = omega (arith, ok .line-to) in
+    let forward : 1 ≤ majorOf (t .dx) (t .dy) = sound (lineOf t) (ok .runs) .forward in
+    omega (arith, ok .periodic-phase two))
+
+-- and one that the functions of `geometry` take
+pub line-allowed : (t : Ticket) → Allowed t → lines.Allowed (lineOf t)
+unfolding lineOf
+line-allowed t ok = allowed (lineOf t) (ok .runs) (ok .dx-to) (ok .dy-to) (phase-below t ok)
 
 -- the finished page is the filter of the ticket's segment, with white where a pixel is absent
 pub finished-is :

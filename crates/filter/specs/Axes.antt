@@ -1,11 +1,11 @@
--- A pixel by column and row, and by its places on the two axes. Here, and for pages that are flipped
--- in Flip, the exchange of the axes is opened.
+-- A pixel by column and row, and by its places on the two axes: laws that others may use, with the exchange of the axes
+-- left shut.
 -- Assumes nothing.
 use mathlib.Core.Path.{_≡_, refl}
 use mathlib.Core.Bool.{Bool, true, false}
 use Prim.Native.Nat.{ℕ, _<_}
 use Rattle.tray.specs.Turned.{downOf, acrossOf}
 use Rattle.filter.specs.Seen.{View, turned}
 
 -- a page by its axes is the page by columns and rows
 pub turned-is :
