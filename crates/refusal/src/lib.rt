@@ -31,6 +31,7 @@ pub enum Later {
     BadMaximum, // maximum above 255
     BadPixel, // pixel above the maximum, or too few pixels
     TooManyJobs, // more than 256 jobs
+    PixelOffPage, // pixel off the page
     NumbersTooFew, // ours, 100, of every call that is lent a buffer of numbers: the buffer is too short
 }
 

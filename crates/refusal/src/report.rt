@@ -15,6 +15,7 @@ fn later_number(r: Later) -> usize
         Later::BadMaximum => 16,
         Later::BadPixel => 17,
         Later::TooManyJobs => 18,
+        Later::PixelOffPage => 19,
         Later::NumbersTooFew => 100,
     }
 }

@@ -11,7 +11,7 @@ use refusal::Answer;
 use refusal::report;
 
 // An answer: refusal is 0 for a finished page, a ticket that was read or a list that was run, else the number of the
-// refusal. 1 to 25 are the documents' (1 to 18 so far); 100 is ours and means a buffer of numbers that is too short.
+// refusal. 1 to 25 are the documents' (1 to 19 so far); 100 is ours and means a buffer of numbers that is too short.
 #[repr(C)]
 pub struct Outcome {
     pub refusal: u64,

@@ -1,0 +1,3 @@
+pub mod Row
+pub mod Promises
+pub mod Laws

@@ -1,0 +1,3 @@
+pub mod Stand
+pub mod Promises
+pub mod Laws

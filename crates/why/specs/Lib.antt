@@ -1,0 +1,5 @@
+pub mod Reason
+pub mod Told
+pub mod Promises
+pub mod Laws
+pub mod Named
