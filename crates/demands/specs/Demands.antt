@@ -1,5 +1,5 @@
--- The demands that are theorems over the definitions of a job, of a job on a file and of a list of jobs: every
--- statement of this crate, in one record.
+-- The demands that are theorems over the definitions of a job, of a job on a file, of a list of jobs and of a question:
+-- every statement of this crate, in one record.
 -- proofs/Demands.antt has its proof.
 -- Assumes nothing.
 use Rattle.demands.specs.Same.{SameAnswer, SameNumber, SamePlace, SameWork}
@@ -21,6 +21,8 @@ use Rattle.demands.specs.Lists.{ListAnswersKept, ListAnswersLength, List
 use Rattle.demands.specs.Lists.{ListOutputKept, ListOutputLength, ListScratchKept, ListScratchLength}
 use Rattle.demands.specs.Lists.{ListScratchZero, ListLaterWins, ListPage, ListHidden, ListReach, ListPageAlone}
 use Rattle.demands.specs.Lists.{ListExact}
+use Rattle.demands.specs.Why.{WhyRefused, WhyOffPage, WhyNineteen, WhyDone, WhyBox, NamesOne, WhyErosion}
+use Rattle.demands.specs.Why.{WhyDilation, WhyOpening, WhyClosing, WhySame, WhySameRefused, WhyReach}
 
 pub record Demands : Type 0 where
   -- 1. a refused job writes nothing; a finished one writes only its page and leaves the scratch it used at zero
@@ -112,3 +114,19 @@ pub record Demands : Type 0 where
   pub list-reach : ListReach
   pub list-page-alone : ListPageAlone
   pub list-exact : ListExact
+  -- document 02, wish 4: a question. It is refused as its job is, and with 19 exactly off the page
+  pub why-refused : WhyRefused
+  pub why-off-page : WhyOffPage
+  pub why-nineteen : WhyNineteen
+  pub why-done : WhyDone
+  -- it names the true reason and the first one
+  pub why-box : WhyBox
+  pub names-one : NamesOne
+  pub why-erosion : WhyErosion
+  pub why-dilation : WhyDilation
+  pub why-opening : WhyOpening
+  pub why-closing : WhyClosing
+  -- 3. the answer depends on no byte of the source, the reason on the unhidden pixels near the pixel
+  pub why-same : WhySame
+  pub why-same-refused : WhySameRefused
+  pub why-reach : WhyReach

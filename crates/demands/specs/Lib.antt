@@ -8,4 +8,5 @@ pub mod Work
 pub mod Flip
 pub mod Files
 pub mod Lists
+pub mod Why
 pub mod Demands
