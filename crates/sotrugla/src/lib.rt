@@ -3,6 +3,7 @@
 // its bytes are there, and no two of the buffers overlap.
 pub mod files; // files.rt: pages that arrive as P5 files
 pub mod lists; // lists.rt: a whole tray in one call
+pub mod reasons; // reasons.rt: why a pixel came out so
 
 ghost use mathlib.Core.Path.{_≡_};
 ghost use lib.ListN.{length};
@@ -129,8 +130,8 @@ pub extern "C" fn sotrugla_is_hidden(ticket: &[u8], column: usize, row: usize) -
     if hidden { 1 } else { 0 }
 }
 
-// 0.5.0: a million for the major number, a thousand for the minor one, one for the patch.
-const VERSION: u64 = 5000;
+// 0.6.0: a million for the major number, a thousand for the minor one, one for the patch.
+const VERSION: u64 = 6000;
 
 // The version of the library that runs, which need not be that of the header that a host was built with.
 #[no_mangle]
