@@ -11,11 +11,12 @@ use crate::refusal::{BOX_OFF_PAGE, PHASE, PIXELS, SOURCE_DOES_NOT_FIT, TICKET_EN
 use crate::ticket_list::LONGEST_LIST;
 use crate::trial::{hex, Due, Trial};
 use crate::{file_job, file_list, flip, job_list, marks, number_list, ticket_list};
-use crate::{tray, tray_list, tray_marks};
+use crate::{question_list, reason, reason_marks, tray, tray_list, tray_marks};
 
 pub type Driver = fn(u64, u64, &[&str]) -> io::Result<Trial>;
 
-/// Jobs for one run of a job program or a file program, and lists for one of a tray program.
+/// Jobs for one run of a job program or a file program, lists for one of a tray program, and
+/// questions for one of a question program.
 const JOBS_A_RUN: u64 = 50;
 
 /// The page program, one run an input.
@@ -169,6 +170,27 @@ pub fn files(seed: u64, count: u64, program: &[&str]) -> io::Result<Trial> {
             kinds.iter().for_each(|kind| trial.count(kind, 1));
             let text = file_list::line(&job, &outcome);
             batch.push(file_list::entry(&job), Due { index, input: file_list::told(&job), text });
+        }
+        trial.ask(program, &batch.list, &batch.dues)?;
+    }
+    Ok(trial)
+}
+
+/// The question program, many questions a run, as the job program.
+pub fn questions(seed: u64, count: u64, program: &[&str]) -> io::Result<Trial> {
+    let mut trial = Trial::new(seed, count, "questions");
+    // Every question has the same marks by name.
+    let question = generate::question(seed, 0);
+    let marks = reason_marks::of(&question, &reason::of(&question));
+    marks.iter().for_each(|(mark, _)| trial.require(mark));
+    for indices in runs(count, JOBS_A_RUN) {
+        let mut batch = Batch::default();
+        for index in indices {
+            let question = generate::question(seed, index);
+            let reason = reason::of(&question);
+            trial.count_marks(&reason_marks::of(&question, &reason));
+            let (input, text) = (question_list::told(&question), question_list::line(&reason));
+            batch.push(question_list::entry(&question), Due { index, input, text });
         }
         trial.ask(program, &batch.list, &batch.dues)?;
     }

@@ -54,7 +54,8 @@ fn judged(job: &FileJob) -> Result<(Ticket, Header), Refusal> {
     let header = pgm::read(&job.file)?;
     let fits = written_length(&header) <= job.output.len() as u64;
     unless(fits, refusal::OUTPUT_DOES_NOT_FIT, 0)?;
-    judge_scratch_and_boxes(&ticket, header.width, header.height, &job.scratch)?;
+    let scratch_length = job.scratch.len() as u64;
+    judge_scratch_and_boxes(&ticket, header.width, header.height, scratch_length)?;
     Ok((ticket, header))
 }
 

@@ -5,24 +5,53 @@ use crate::ticket::{HiddenBox, Ticket, CLOSE, DILATE, ERODE, OPEN};
 
 /// A page between passes, row by row. A hidden pixel has no value at all, so that no pass can
 /// take the white it comes out with for a grey.
-struct Page {
-    sides: Sides,
+pub struct Page {
+    pub sides: Sides,
     greys: Vec<Option<u8>>,
 }
 
 impl Page {
-    fn grey(&self, at: Pixel) -> Option<u8> {
+    /// The page that a first pass finds, out of its greys row by row.
+    pub fn unhidden(sides: Sides, greys: &[u8], boxes: &[HiddenBox]) -> Page {
+        let unhidden = |(at, &grey): (Pixel, &u8)| (!hidden(boxes, at)).then_some(grey);
+        Page { sides, greys: sides.pixels().into_iter().zip(greys).map(unhidden).collect() }
+    }
+
+    /// The page that a pass makes of this one.
+    pub fn after(&self, ticket: &Ticket, pass: Pass) -> Page {
+        let results = self.sides.pixels().into_iter().map(|at| self.result(ticket, pass, at));
+        Page { sides: self.sides, greys: results.collect() }
+    }
+
+    pub fn grey(&self, at: Pixel) -> Option<u8> {
         self.greys[(at.row * self.sides.width + at.column) as usize]
     }
+
+    /// The extreme over the present steps of one pixel's window; nothing if the pixel is hidden.
+    pub fn result(&self, ticket: &Ticket, pass: Pass, pixel: Pixel) -> Option<u8> {
+        let (lines, window) = (Lines::of(ticket), pass.window(ticket));
+        let mut extreme = self.grey(pixel)?;
+        for (way, reach) in [(Way::Behind, window.behind), (Way::Ahead, window.ahead)] {
+            // A step over a hidden pixel counts towards the reach, and its grey is skipped.
+            let steps = lines.walk(self.sides, pixel, way).take(reach);
+            for grey in steps.filter_map(|at| self.grey(at)) {
+                extreme = pass.extreme(extreme, grey);
+            }
+        }
+        Some(extreme)
+    }
+}
+
+/// Whether a pixel lies in this box.
+pub fn holds(hidden_box: &HiddenBox, at: Pixel) -> bool {
+    let (left, top) = (i64::from(hidden_box.left), i64::from(hidden_box.top));
+    let (width, height) = (i64::from(hidden_box.width), i64::from(hidden_box.height));
+    (left..left + width).contains(&at.column) && (top..top + height).contains(&at.row)
 }
 
 /// Whether a pixel lies in one of the boxes.
 pub fn hidden(boxes: &[HiddenBox], at: Pixel) -> bool {
-    boxes.iter().any(|b| {
-        let (left, top) = (i64::from(b.left), i64::from(b.top));
-        let (width, height) = (i64::from(b.width), i64::from(b.height));
-        (left..left + width).contains(&at.column) && (top..top + height).contains(&at.row)
-    })
+    boxes.iter().any(|hidden_box| holds(hidden_box, at))
 }
 
 /// One pass of an operation.
@@ -59,7 +88,7 @@ impl Pass {
         }
     }
 
-    fn extreme(self, one: u8, other: u8) -> u8 {
+    pub fn extreme(self, one: u8, other: u8) -> u8 {
         match self {
             Pass::Erosion => one.min(other),
             Pass::Dilation => one.max(other),
@@ -67,28 +96,12 @@ impl Pass {
     }
 }
 
-/// The extreme over the present steps of one pixel's window; nothing if the pixel is hidden.
-fn result(page: &Page, lines: Lines, pass: Pass, window: Window, pixel: Pixel) -> Option<u8> {
-    let mut extreme = page.grey(pixel)?;
-    for (way, reach) in [(Way::Behind, window.behind), (Way::Ahead, window.ahead)] {
-        // A step over a hidden pixel counts towards the reach, and its grey is skipped.
-        for grey in lines.walk(page.sides, pixel, way).take(reach).filter_map(|at| page.grey(at)) {
-            extreme = pass.extreme(extreme, grey);
-        }
-    }
-    Some(extreme)
-}
-
 /// The finished page, row by row, for a ticket that was read and whose boxes lie on the page. A
 /// hidden pixel comes out as white, whatever number that is.
 pub fn filtered(sides: Sides, greys: &[u8], ticket: &Ticket, white: u8) -> Vec<u8> {
-    let (lines, boxes, pixels) = (Lines::of(ticket), ticket.hidden_boxes(), sides.pixels());
-    let unhidden = |(&at, &grey): (&Pixel, &u8)| (!hidden(boxes, at)).then_some(grey);
-    let mut page = Page { sides, greys: pixels.iter().zip(greys).map(unhidden).collect() };
+    let mut page = Page::unhidden(sides, greys, ticket.hidden_boxes());
     for &pass in Pass::of(ticket.operation) {
-        let window = pass.window(ticket);
-        let results = pixels.iter().map(|&pixel| result(&page, lines, pass, window, pixel));
-        page = Page { sides, greys: results.collect() };
+        page = page.after(ticket, pass);
     }
     page.greys.iter().map(|grey| grey.unwrap_or(white)).collect()
 }

@@ -13,6 +13,7 @@ mod flips;
 mod inputs;
 mod jobs;
 mod lists;
+mod questions;
 mod tray_jobs;
 mod trays;
 
@@ -24,6 +25,7 @@ pub use lists::{ticket_list, TicketList};
 use crate::job::Job;
 use crate::lines::{Lines, Sides};
 use crate::random::Random;
+use crate::reason::Question;
 use crate::ticket::{CONNECTED, PERIODIC};
 use crate::tray::Call;
 
@@ -92,6 +94,11 @@ pub fn file_job(seed: u64, index: u64) -> MadeFile {
 /// A whole list of jobs on one pair of trays, with random old contents.
 pub fn tray_call(seed: u64, index: u64) -> Call {
     trays::call(&mut Random::new(seed, index))
+}
+
+/// A job, mostly one that finishes, and a pixel to be asked about, on its page or off it.
+pub fn question(seed: u64, index: u64) -> Question {
+    questions::question(&mut Random::new(seed, index))
 }
 
 pub fn line_sample(seed: u64, index: u64) -> LineSample {

@@ -41,10 +41,18 @@ pub struct Outcome {
     pub scratch: Vec<u8>,
 }
 
+/// How long source tray, output tray and scratch are.
+#[derive(Clone, Copy, Debug, PartialEq, Eq)]
+pub struct Lengths {
+    pub source: u64,
+    pub output: u64,
+    pub scratch: u64,
+}
+
 impl Job {
     /// Asked only of sides within the limits.
     pub fn sides(&self) -> Sides {
-        Sides { width: self.width as i64, height: self.height as i64 }
+        self.source_page().sides()
     }
 
     pub fn source_page(&self) -> Placement {
@@ -56,6 +64,16 @@ impl Job {
         let (offset, stride) = (self.output_offset, self.output_stride);
         Placement { offset, width: self.width, height: self.height, stride }
     }
+
+    pub fn pages(&self) -> [Placement; 2] {
+        [self.source_page(), self.output_page()]
+    }
+
+    pub fn lengths(&self) -> Lengths {
+        let lengths = [&self.source, &self.output, &self.scratch].map(|bytes| bytes.len() as u64);
+        let [source, output, scratch] = lengths;
+        Lengths { source, output, scratch }
+    }
 }
 
 pub fn run(job: &Job) -> Outcome {
@@ -64,7 +82,7 @@ pub fn run(job: &Job) -> Outcome {
         output: job.output.clone(),
         scratch: job.scratch.clone(),
     };
-    match judged(job) {
+    match judged(&job.ticket, job.pages(), job.lengths()) {
         Ok(ticket) => finish(job, &ticket, &mut outcome),
         Err(Refusal { number, place }) => {
             outcome.answer = Answer { refusal: number, place, work: 0 }
@@ -73,15 +91,19 @@ pub fn run(job: &Job) -> Outcome {
     outcome
 }
 
-/// The ticket's refusals, "then 10, 11, 12, 13, and 14 over the boxes in order".
-fn judged(job: &Job) -> Result<Ticket, Refusal> {
-    let ticket = ticket::read(&job.ticket)?;
-    let (source, output) = (job.source_page(), job.output_page());
+/// The ticket's refusals, "then 10, 11, 12, 13, and 14 over the boxes in order". They depend on
+/// "ticket bytes, placements and the three lengths only".
+pub fn judged(
+    ticket: &[u8],
+    [source, output]: [Placement; 2],
+    lengths: Lengths,
+) -> Result<Ticket, Refusal> {
+    let ticket = ticket::read(ticket)?;
     let limits = source.within_limits() && output.within_limits();
     unless(limits, refusal::BEYOND_LIMITS, 0)?;
-    unless(source.fits(job.source.len() as u64), refusal::SOURCE_DOES_NOT_FIT, 0)?;
-    unless(output.fits(job.output.len() as u64), refusal::OUTPUT_DOES_NOT_FIT, 0)?;
-    judge_scratch_and_boxes(&ticket, job.width, job.height, &job.scratch)?;
+    unless(source.fits(lengths.source), refusal::SOURCE_DOES_NOT_FIT, 0)?;
+    unless(output.fits(lengths.output), refusal::OUTPUT_DOES_NOT_FIT, 0)?;
+    judge_scratch_and_boxes(&ticket, source.width, source.height, lengths.scratch)?;
     Ok(ticket)
 }
 
@@ -90,9 +112,9 @@ pub fn judge_scratch_and_boxes(
     ticket: &Ticket,
     width: u64,
     height: u64,
-    scratch: &[u8],
+    scratch_length: u64,
 ) -> Result<(), Refusal> {
-    let long_enough = scratch.len() as u128 >= scratch_needed(width, height);
+    let long_enough = u128::from(scratch_length) >= scratch_needed(width, height);
     unless(long_enough, refusal::SCRATCH_TOO_SHORT, 0)?;
     for (place, hidden_box) in (0..).zip(ticket.hidden_boxes()) {
         unless(on_page(hidden_box, width, height), refusal::BOX_OFF_PAGE, place)?;
@@ -108,11 +130,10 @@ fn on_page(hidden_box: &HiddenBox, width: u64, height: u64) -> bool {
 }
 
 fn finish(job: &Job, ticket: &Ticket, outcome: &mut Outcome) {
-    let (sides, source, output) = (job.sides(), job.source_page(), job.output_page());
-    let pixels = sides.pixels();
-    let greys: Vec<u8> = pixels.iter().map(|&pixel| job.source[source.byte(pixel)]).collect();
+    let (sides, output) = (job.sides(), job.output_page());
+    let greys = job.source_page().greys(&job.source);
     let results = filter::filtered(sides, &greys, ticket, WHITE);
-    for (&pixel, result) in pixels.iter().zip(results) {
+    for (pixel, result) in sides.pixels().into_iter().zip(results) {
         outcome.output[output.byte(pixel)] = result;
     }
     outcome.scratch[..scratch_needed(job.width, job.height) as usize].fill(0);

@@ -15,17 +15,21 @@
 //! - `pgm`: a P5 file to its header or a refusal, and the header that is written
 //! - `file_job`: a whole job on a P5 file
 //! - `tray`: a whole list of jobs in one call
+//! - `reason`: why a pixel came out so
 //! - `page_program`: standard input of the page program to what it must print
-//! - `ticket_list`, `number_list`, `job_list`, `file_list`, `tray_list`: the same for the programs
-//!   that read tickets, number steps, run jobs, run jobs on files, and run whole lists of jobs
-//! - `marks`, `tray_marks`: what a summary counts of a job, and of a list of jobs
+//! - `ticket_list`, `number_list`, `job_list`, `file_list`, `tray_list`, `question_list`: the same
+//!   for the programs that read tickets, number steps, run jobs, run jobs on files, run whole lists
+//!   of jobs, and answer questions about pixels
+//! - `marks`, `tray_marks`, `reason_marks`: what a summary counts of a job, of a list of jobs, and of
+//!   a question
 //! - `random`, `generate`: seeded inputs of every kind, for this and for other programs
 //! - `program`: another program run once, held to a time limit
 //! - `trial`: what was printed held against what was due
 //! - `drivers`: each kind of program run over generated inputs
 //!
 //! The library's own job program is `host.c`, beside this source, its program for jobs on files is
-//! `file_host.c`, and its program for lists of jobs `tray_host.c`.
+//! `file_host.c`, its program for lists of jobs `tray_host.c`, and its program for questions
+//! `why_host.c`.
 
 pub mod drivers;
 pub mod file_job;
@@ -42,7 +46,10 @@ pub mod page_program;
 pub mod pgm;
 pub mod placement;
 pub mod program;
+pub mod question_list;
 pub mod random;
+pub mod reason;
+pub mod reason_marks;
 pub mod refusal;
 pub mod ticket;
 pub mod ticket_list;

@@ -3,7 +3,7 @@
 
 use crate::ticket::{Ticket, PERIODIC};
 
-#[derive(Clone, Copy, Debug, PartialEq, Eq, PartialOrd, Ord)]
+#[derive(Clone, Copy, Debug, Default, PartialEq, Eq, PartialOrd, Ord)]
 pub struct Pixel {
     pub column: i64,
     pub row: i64,

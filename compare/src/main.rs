@@ -5,7 +5,8 @@ use std::process::ExitCode;
 
 use compare::drivers::Driver;
 use compare::page_program::reply;
-use compare::{drivers, file_list, generate, job_list, number_list, ticket_list, tray_list};
+use compare::{drivers, file_list, generate, job_list, number_list, question_list};
+use compare::{ticket_list, tray_list};
 
 const USAGE: &str = "usage:
   compare page                            read a page program's input, print what it must print
@@ -15,11 +16,13 @@ const USAGE: &str = "usage:
   compare job-list                        read a job program's input, print what it must print
   compare file-list                       read a file program's input, print what it must print
   compare tray-list                       read a tray program's input, print what it must print
+  compare question-list                   read a question program's input, print what it must print
   compare make SEED INDEX                 write one generated input of a page program
   compare make-jobs SEED FIRST COUNT      write generated jobs, an input of a job program
   compare make-flips SEED FIRST COUNT     write other such jobs, each followed by its flipped job
   compare make-files SEED FIRST COUNT     write generated jobs on files, an input of a file program
   compare make-lists SEED FIRST COUNT     write generated lists of jobs, an input of a tray program
+  compare make-questions SEED FIRST COUNT write generated questions, an input of a question program
 PROGRAM may be several words, the program and its arguments:
   compare pages SEED COUNT PROGRAM..      run a page program over generated inputs and compare
   compare tickets SEED COUNT PROGRAM..    run a ticket program over generated tickets and compare
@@ -28,7 +31,8 @@ PROGRAM may be several words, the program and its arguments:
   compare flips SEED COUNT PROGRAM..      run a job program over generated jobs and their flipped
                                           jobs, compare, and hold the two to one another
   compare files SEED COUNT PROGRAM..      run a file program over generated files and compare
-  compare lists SEED COUNT PROGRAM..      run a tray program over generated lists and compare";
+  compare lists SEED COUNT PROGRAM..      run a tray program over generated lists and compare
+  compare questions SEED COUNT PROGRAM..  run a question program over generated questions and compare";
 
 fn main() -> ExitCode {
     let words: Vec<String> = std::env::args().skip(1).collect();
@@ -54,6 +58,7 @@ fn did(words: &[&str]) -> Option<io::Result<ExitCode>> {
         ["job-list"] => answer(job_list::printed),
         ["file-list"] => answer(file_list::printed),
         ["tray-list"] => answer(tray_list::printed),
+        ["question-list"] => answer(question_list::printed),
         [word, seed, first, count] if word.starts_with("make-") => {
             print_all(entry(word)?, number(seed)?, number(first)?, number(count)?)
         }
@@ -93,6 +98,9 @@ fn entry(word: &str) -> Option<Entry> {
         }),
         "make-files" => Some(|seed, index| file_list::entry(&generate::file_job(seed, index).job)),
         "make-lists" => Some(|seed, index| tray_list::entry(&generate::tray_call(seed, index))),
+        "make-questions" => {
+            Some(|seed, index| question_list::entry(&generate::question(seed, index)))
+        }
         _ => None,
     }
 }
@@ -112,6 +120,7 @@ fn driver(word: &str) -> Option<Driver> {
         "flips" => Some(drivers::flips),
         "files" => Some(drivers::files),
         "lists" => Some(drivers::lists),
+        "questions" => Some(drivers::questions),
         _ => None,
     }
 }

@@ -2,7 +2,7 @@
 //! a job that is flipped.
 
 use crate::flip::Flip;
-use crate::job::{Job, Outcome};
+use crate::job::{Job, Lengths, Outcome};
 use crate::lines::{Lines, Sides};
 use crate::placement::{scratch_needed, Placement, LONGEST_SIDE, LONGEST_STRIDE};
 use crate::refusal::{BEYOND_LIMITS, BOX_OFF_PAGE, NONE, OUTPUT_DOES_NOT_FIT};
@@ -15,7 +15,8 @@ pub fn of(job: &Job, outcome: &Outcome) -> Vec<(String, bool)> {
     let done = refusal == NONE;
     let mut marks = vec![("done".to_string(), done)];
     marks.extend((TICKET_ENDS..=BOX_OFF_PAGE).map(|n| (format!("refused {n}"), refusal == n)));
-    marks.extend(refused_marks(job, refusal).map(|(name, holds)| (name.to_string(), holds)));
+    let near_misses = refused_marks(job.pages(), job.lengths(), refusal);
+    marks.extend(near_misses.map(|(name, holds)| (name.to_string(), holds)));
     let ticket = ticket::shown(&job.ticket).1;
     for (name, holds) in ticket_marks(&ticket) {
         marks.push((format!("done, {name}"), done && holds));
@@ -58,23 +59,26 @@ fn tie(lines: Lines, sides: Sides) -> bool {
 }
 
 /// Near misses, each with the refusal it is there for.
-fn refused_marks(job: &Job, refusal: u8) -> [(&'static str, bool); 9] {
-    let (source, output) = (job.source_page(), job.output_page());
-    let one_short = |needed: u128, length: usize| needed == length as u128 + 1;
-    let needed = || scratch_needed(job.width, job.height);
-    let (sides, strides) = ([job.width, job.height], [job.source_stride, job.output_stride]);
+pub fn refused_marks(
+    [source, output]: [Placement; 2],
+    lengths: Lengths,
+    refusal: u8,
+) -> [(&'static str, bool); 9] {
+    let one_short = |needed: u128, length: u64| needed == u128::from(length) + 1;
+    let needed = || scratch_needed(source.width, source.height);
+    let (sides, strides) = ([source.width, source.height], [source.stride, output.stride]);
     let (beyond, near_end) = (refusal == BEYOND_LIMITS, u64::MAX - 200);
     let (no_source, no_output) = (refusal == SOURCE_DOES_NOT_FIT, refusal == OUTPUT_DOES_NOT_FIT);
     let no_scratch = refusal == SCRATCH_TOO_SHORT;
     [
-        ("source one byte short", no_source && one_short(source.end(), job.source.len())),
-        ("output one byte short", no_output && one_short(output.end(), job.output.len())),
-        ("scratch one byte short", no_scratch && one_short(needed(), job.scratch.len())),
+        ("source one byte short", no_source && one_short(source.end(), lengths.source)),
+        ("output one byte short", no_output && one_short(output.end(), lengths.output)),
+        ("scratch one byte short", no_scratch && one_short(needed(), lengths.scratch)),
         ("source offset near 2^64", no_source && source.offset >= near_end),
         ("output offset near 2^64", no_output && output.offset >= near_end),
         ("side 0", beyond && sides.contains(&0)),
         ("side above 8192", beyond && sides.iter().any(|&side| side > LONGEST_SIDE)),
-        ("stride below the width", beyond && strides.iter().any(|&stride| stride < job.width)),
+        ("stride below the width", beyond && strides.iter().any(|&stride| stride < source.width)),
         ("stride above 16384", beyond && strides.iter().any(|&stride| stride > LONGEST_STRIDE)),
     ]
 }
@@ -94,7 +98,7 @@ const SLOPES: [Slope; 8] = [
     ("upright", |dx, _| dx == 0),
 ];
 
-fn ticket_marks(ticket: &Ticket) -> Vec<(String, bool)> {
+pub fn ticket_marks(ticket: &Ticket) -> Vec<(String, bool)> {
     let operations = (1..).zip(["erode", "dilate", "open", "close"]);
     let mut marks: Vec<_> =
         operations.map(|(n, name)| (name.to_string(), ticket.operation == n)).collect();

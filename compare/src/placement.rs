@@ -1,7 +1,7 @@
 //! Document 01, "Placing a page". All sums are over whole numbers: u128 holds an offset near the
 //! end of 64 bits and what is added to it, so the sum cannot look small.
 
-use crate::lines::Pixel;
+use crate::lines::{Pixel, Sides};
 
 /// "w and h 1 to 8192".
 pub const LONGEST_SIDE: u64 = 8192;
@@ -29,6 +29,11 @@ impl Placement {
         u128::from(self.offset) + rows_before + u128::from(self.width)
     }
 
+    /// Asked only of sides within the limits.
+    pub fn sides(&self) -> Sides {
+        Sides { width: self.width as i64, height: self.height as i64 }
+    }
+
     pub fn fits(&self, tray_length: u64) -> bool {
         self.end() <= u128::from(tray_length)
     }
@@ -36,6 +41,11 @@ impl Placement {
     /// The byte of a pixel; asked only of a page that fits.
     pub fn byte(&self, pixel: Pixel) -> usize {
         (self.offset + pixel.row as u64 * self.stride + pixel.column as u64) as usize
+    }
+
+    /// The page's greys, row by row; asked only of a page that fits this tray.
+    pub fn greys(&self, tray: &[u8]) -> Vec<u8> {
+        self.sides().pixels().into_iter().map(|pixel| tray[self.byte(pixel)]).collect()
     }
 }
 

@@ -1,9 +1,9 @@
-//! The numbers of document 01, "Refusals and what they return", those of wishes 1 and 3, and one
+//! The numbers of document 01, "Refusals and what they return", those of wishes 1, 3 and 4, and one
 //! that is the library's own.
 
-/// Why a ticket, a file, a job or a list of jobs is refused. The place is a byte of the ticket for
-/// numbers 1 to 9, a box number for 14, a byte of the file for 15 to 17, the numbers needed for
-/// 100, and 0 for the rest.
+/// Why a ticket, a file, a job, a list of jobs or a question about a pixel is refused. The place is
+/// a byte of the ticket for numbers 1 to 9, a box number for 14, a byte of the file for 15 to 17,
+/// the numbers needed for 100, and 0 for the rest.
 #[derive(Clone, Copy, Debug, PartialEq, Eq)]
 pub struct Refusal {
     pub number: u8,
@@ -31,6 +31,7 @@ pub const HEADER: u8 = 15;
 pub const MAXIMUM: u8 = 16;
 pub const PIXELS: u8 = 17;
 pub const TOO_MANY_JOBS: u8 = 18;
+pub const PIXEL_OFF_PAGE: u8 = 19;
 /// In no document: a lent buffer of numbers is too short.
 pub const NUMBERS_TOO_FEW: u8 = 100;
 

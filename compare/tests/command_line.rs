@@ -5,9 +5,9 @@ use std::io::Write;
 use std::process::{Command, Output, Stdio};
 use std::time::Duration;
 
-use compare::generate::{file_job, flip_pair, job, page_input, tray_call};
+use compare::generate::{file_job, flip_pair, job, page_input, question, tray_call};
 use compare::trial::Trial;
-use compare::{file_list, job_list, program, tray_list};
+use compare::{file_list, job_list, program, question_list, tray_list};
 
 const COMPARE: &str = env!("CARGO_BIN_EXE_compare");
 
@@ -32,6 +32,8 @@ fn words_that_print() {
     assert_eq!(compare(&["make-files", "1", "5", "2"], b"").stdout, files);
     let lists = [5, 6].map(|index| tray_list::entry(&tray_call(1, index))).concat();
     assert_eq!(compare(&["make-lists", "1", "5", "2"], b"").stdout, lists);
+    let questions = [5, 6].map(|index| question_list::entry(&question(1, index))).concat();
+    assert_eq!(compare(&["make-questions", "1", "5", "2"], b"").stdout, questions);
     assert_eq!(compare(&["page"], b"\0\x03\0").stdout, b"bad input\n");
     assert_eq!(compare(&["ticket"], b"").stdout, b"refused 1 at 0\n");
     let ticket = b"\x01\0\x01\x04\x02\0\x01\x02\x03\0\x04\0\x03\xFF\xFE\x04\0\x02\0\x07\
@@ -47,6 +49,7 @@ fn words_that_print() {
     assert_eq!(compare(&["file-list"], &[0; 32]).stdout, line);
     let line = b"100 768 0 answers output  scratch \n";
     assert_eq!(compare(&["tray-list"], &[0; 56]).stdout, line);
+    assert_eq!(compare(&["question-list"], &[0; 96]).stdout, b"1 0 0 0 0 0 0 0 0\n");
 }
 
 #[test]
@@ -57,7 +60,7 @@ fn words_that_say_nothing() {
     for words in [&short[..], &[&no_number, &no_list]].concat() {
         assert_eq!(compare(words, b"").status.code(), Some(2));
     }
-    for word in ["pages", "tickets", "numbers", "jobs", "flips", "files", "lists"] {
+    for word in ["pages", "tickets", "numbers", "jobs", "flips", "files", "lists", "questions"] {
         assert_eq!(compare(&[word, "1", "1"], b"").status.code(), Some(2));
         assert_eq!(compare(&[word, "1", "1", "/no/such/program"], b"").status.code(), Some(2));
     }
@@ -90,6 +93,7 @@ fn drivers_agree_with_this_reading() {
         ("flips", 120, "job-list", "120 jobs and their flipped jobs"),
         ("files", 120, "file-list", "120 files"),
         ("lists", 120, "tray-list", "120 lists of jobs"),
+        ("questions", 120, "question-list", "120 questions"),
     ] {
         let (text, _) = driven(word, count, &[COMPARE, answers]);
         assert!(text.starts_with(&format!("{what}, 0 differences\n")), "{text}");
@@ -174,6 +178,16 @@ fn lines_of_lists_are_compared_whole() {
     ] {
         assert!(by_shell("lists", 120, &format!("compare tray-list | sed 's{wrong}'")).1 >= least);
     }
+}
+
+#[test]
+fn every_number_of_a_reason_is_compared() {
+    for number in 1..=9 {
+        let wrong = format!("compare question-list | awk '{{ ${number} += 1; print }}'");
+        assert_eq!(by_shell("questions", 120, &wrong).1, 120);
+    }
+    let (told, _) = by_shell("questions", 120, "compare question-list | sed 's/^19 0/19 1/'");
+    assert!(told.contains("due:\n19 0 0 0 0 0 0 0 0\n\nprinted, right up to byte 3:\n19 1 0 "));
 }
 
 #[test]

@@ -12,7 +12,8 @@ use compare::pgm;
 use compare::placement::scratch_needed;
 use compare::ticket::{read, shown, CLOSE, ERODE};
 use compare::tray::{self, ANSWERS, ANSWER_NUMBERS};
-use compare::{file_job, file_list, tray_list, tray_marks};
+use compare::{file_job, file_list, question_list, reason, reason_marks};
+use compare::{tray_list, tray_marks};
 
 #[test]
 fn two_thousand_page_inputs_bring_every_answer() {
@@ -189,6 +190,23 @@ fn lists_bring_all_that_is_counted_and_write_only_what_they_may() {
         assert_eq!(outcome.answers[ANSWERS..], call.answers[ANSWERS..]);
     }
     assert_eq!(numbers, [0, 18, 100].into());
+    assert_eq!(missed, BTreeSet::new());
+}
+
+#[test]
+fn questions_bring_all_that_is_counted() {
+    let (mut numbers, mut kinds, mut missed) = (BTreeSet::new(), BTreeSet::new(), BTreeSet::new());
+    for index in 0..2000 {
+        let question = generate::question(3, index);
+        let reason = reason::of(&question);
+        numbers.insert(reason.refusal);
+        kinds.insert(reason.kind);
+        let entry = question_list::entry(&question);
+        assert_eq!(question_list::first(&entry), Some((question.clone(), &[][..])));
+        still_missed(&mut missed, index, reason_marks::of(&question, &reason));
+    }
+    assert_eq!(numbers, (0..=14).chain([19]).collect());
+    assert_eq!(kinds, [0, 1, 3, 4].into());
     assert_eq!(missed, BTreeSet::new());
 }
 

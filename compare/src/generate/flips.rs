@@ -26,7 +26,7 @@ pub fn pair(random: &mut Random) -> [Job; 2] {
 
 /// A connected line has ties if its major component is even, and small pages meet them if it is
 /// small too.
-fn set_ties(random: &mut Random, draft: &mut Draft) {
+pub fn set_ties(random: &mut Random, draft: &mut Draft) {
     let major = 2 * random.between(1, 12) as i16;
     let allowed = |minor: &i16| vector_allowed(CONNECTED, i64::from(major), i64::from(*minor));
     let minor = random.pick(&(1 - major..major).filter(allowed).collect::<Vec<i16>>());

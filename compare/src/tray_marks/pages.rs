@@ -1,7 +1,6 @@
 //! How the output pages of a list lie over one another, and whose bytes win there.
 
 use super::{pairs, Answered, Mark};
-use crate::lines::Sides;
 use crate::placement::{scratch_needed, Placement};
 use crate::tray::{self, Call, Outcome, ANSWERS};
 
@@ -38,8 +37,7 @@ fn reversed(call: &Call, all: &[Answered]) -> Call {
 
 /// The bytes of a finished job's page.
 fn bytes(page: Placement) -> Vec<usize> {
-    let sides = Sides { width: page.width as i64, height: page.height as i64 };
-    sides.pixels().into_iter().map(|pixel| page.byte(pixel)).collect()
+    page.sides().pixels().into_iter().map(|pixel| page.byte(pixel)).collect()
 }
 
 fn shared(one: Placement, two: Placement) -> bool {
