@@ -1,5 +1,6 @@
 /* Sotrugla: one grey page of a tray filtered along lines into another tray, as a job ticket orders; or a
  * whole list of such jobs on the same trays; or the page of a raw Netpbm grey file (P5) into another such file.
+ * And of any pixel of such a page the reason why it comes out so.
  *
  * A page is placed in a tray of bytes by its offset, sides and stride: the pixel at column c, row r is
  * byte offset + r * stride + c. Source and output pages share their sides.
@@ -15,17 +16,18 @@
  * no state and no lock: threads may call at the same time with buffers of their own.
  *
  * The inline functions are this header's own, tested and not proved: they name the numbers of a job and of a
- * list, write a ticket's bytes and put refusals into sentences. Those whose names end in _ serve the others
- * alone. */
+ * list, write a ticket's bytes and put refusals and reasons into sentences. Those whose names end in _ serve the
+ * others alone. */
 #ifndef SOTRUGLA_H
 #define SOTRUGLA_H
 
 #include <stddef.h>
 #include <stdint.h>
+#include <stdio.h>
 #include <string.h>
 
-#define SOTRUGLA_VERSION "0.5.0"
-#define SOTRUGLA_VERSION_NUMBER 5000 /* 1000000 * major + 1000 * minor + patch */
+#define SOTRUGLA_VERSION "0.6.0"
+#define SOTRUGLA_VERSION_NUMBER 6000 /* 1000000 * major + 1000 * minor + patch */
 
 #if SIZE_MAX != UINT64_MAX
 #error "Sotrugla is for machines whose sizes are 64-bit numbers"
@@ -48,8 +50,8 @@ struct sotrugla_outcome {
 };
 
 /* 1 to 25 are kept for the law's refusals, of which later versions may know more. 18 is that of a whole list:
- * no job of it has been looked at. 100 is the answer to every call that is handed a buffer of numbers too
- * short; nothing is written then. */
+ * no job of it has been looked at. 19 is that of a question about a pixel, which sotrugla_why is. 100 is the
+ * answer to every call that is handed a buffer of numbers too short; nothing is written then. */
 enum {
     SOTRUGLA_TICKET_ENDS = 1,
     SOTRUGLA_WRONG_TAG = 2,
@@ -69,6 +71,7 @@ enum {
     SOTRUGLA_BAD_MAXIMUM = 16,
     SOTRUGLA_BAD_PIXEL = 17,
     SOTRUGLA_TOO_MANY_JOBS = 18,
+    SOTRUGLA_PIXEL_OFF_PAGE = 19,
     SOTRUGLA_NUMBERS_TOO_FEW = 100
 };
 
@@ -388,6 +391,68 @@ static inline struct sotrugla_job sotrugla_single_job(const struct sotrugla_list
     return job;
 }
 
+/* Why a pixel comes out as it does. refusal and place are as in struct sotrugla_outcome, and at a refusal the
+ * other numbers are 0. Columns, rows and boxes are counted from 0. What a kind does not mean is 0. */
+struct sotrugla_reason {
+    uint64_t refusal, place, kind, box, phase;
+    uint64_t through_column, through_row, from_column, from_row;
+};
+
+/* The kinds of reasons; 2 is kept for a later kind of box.
+ *   SOTRUGLA_HIDDEN_BOX   box is the number of the first box that holds the pixel, which comes out white
+ *   SOTRUGLA_ONE_PASS     erosion and dilation: from is the first unhidden step of the pixel's window whose grey
+ *                         is the result; through is the pixel itself
+ *   SOTRUGLA_TWO_PASSES   opening and closing: through is the first unhidden step of the pixel's window in the
+ *                         second pass that gives the result, and from the first unhidden step of the window of
+ *                         through in the first pass that gave it
+ * Steps are ordered along the vector. phase is the ticket's. The result is the source's grey at from. */
+enum { SOTRUGLA_HIDDEN_BOX = 1, SOTRUGLA_ONE_PASS = 3, SOTRUGLA_TWO_PASSES = 4 };
+
+/* Names the reason why a pixel of a job's page comes out as it does, without running the job.
+ *   ticket    read only; the job ticket's bytes
+ *   source    read only: of it the unhidden pixels of one line fewer than the segment's length of steps away
+ * Nothing is written: of output and scratch the job is asked for their lengths alone.
+ * Refusals: those of sotrugla_run for such a job, then 19 where the column is not below the width or the row not
+ * below the height, with place 0.
+ * Cost: a reading of the ticket, and then a time that grows with the segment's length for erosion and dilation,
+ * with its square for opening and closing. */
+struct sotrugla_reason sotrugla_why(const uint8_t *ticket, size_t ticket_length, size_t width,
+                                    size_t height, size_t source_offset, size_t source_stride,
+                                    size_t output_offset, size_t output_stride,
+                                    const uint8_t *source, size_t source_length,
+                                    size_t output_length, size_t scratch_length, size_t column,
+                                    size_t row);
+
+/* sotrugla_why on the job's numbers and source. Its output and scratch may be NULL whatever their lengths: a job
+ * that was run may be asked about as it stands, and one of a list by sotrugla_single_job. */
+static inline struct sotrugla_reason sotrugla_why_job(const struct sotrugla_job *job, size_t column,
+                                                      size_t row)
+{
+    return sotrugla_why(job->ticket, job->ticket_length, job->width, job->height,
+                        job->source_offset, job->source_stride, job->output_offset,
+                        job->output_stride, job->source, job->source_length, job->output_length,
+                        job->scratch_length, column, row);
+}
+
+/* The same for a pixel of a file's page, which sotrugla_run_pgm filters. The result is the file's grey at from; a
+ * hidden pixel comes out as the file's maximum.
+ * Refusals, in this order: the ticket's 1 to 9; the file's 15, 16, 17 and 10; 14; 19.
+ * Cost: a reading of the file, and then as sotrugla_why. */
+static inline struct sotrugla_reason sotrugla_why_pgm(const uint8_t *ticket, size_t ticket_length,
+                                                      const uint8_t *file, size_t file_length,
+                                                      size_t column, size_t row)
+{
+    struct sotrugla_pgm shown = sotrugla_read_pgm(file, file_length);
+    /* A refused file has sides of 0: then the ticket is refused if it is to be, and else the sides. */
+    struct sotrugla_reason reason =
+        sotrugla_why(ticket, ticket_length, shown.width, shown.height, shown.start, shown.width, 0,
+                     shown.width, file, file_length, shown.width * shown.height,
+                     sotrugla_scratch_needed(shown.width, shown.height), column, row);
+    if (reason.refusal == SOTRUGLA_BAD_SIDES)
+        reason.refusal = shown.refusal, reason.place = shown.place;
+    return reason;
+}
+
 /* A refusal in a sentence for an operator; the place stands beside it in the outcome. */
 static inline const char *sotrugla_sentence(uint64_t refusal)
 {
@@ -411,6 +476,7 @@ static inline const char *sotrugla_sentence(uint64_t refusal)
         "the file's maximum is above 255",
         "a pixel of the file is above its maximum, or the file has too few pixels",
         "the list has more than 256 jobs",
+        "the pixel is off the page",
     };
     if (refusal == SOTRUGLA_NUMBERS_TOO_FEW)
         return "the buffer of numbers is too short";
@@ -451,7 +517,7 @@ static inline const char *sotrugla_ticket_sentence(uint64_t refusal, const uint8
     return sotrugla_sentence(refusal);
 }
 
-/* For sotrugla_run_job, and for sotrugla_run by a job of its numbers. */
+/* For sotrugla_run_job and sotrugla_why_job, and for sotrugla_run and sotrugla_why by a job of their numbers. */
 static inline const char *sotrugla_job_sentence(uint64_t refusal, const struct sotrugla_job *job)
 {
     if (refusal != SOTRUGLA_BAD_SIDES)
@@ -474,13 +540,88 @@ static inline const char *sotrugla_listed_sentence(uint64_t refusal,
     return sotrugla_job_sentence(refusal, &job);
 }
 
-/* For sotrugla_run_pgm, and with NULL and 0 for sotrugla_read_pgm. */
+/* For sotrugla_run_pgm and sotrugla_why_pgm, and with NULL and 0 for sotrugla_read_pgm. */
 static inline const char *sotrugla_file_sentence(uint64_t refusal, const uint8_t *ticket,
                                                  size_t ticket_length)
 {
     if (refusal == SOTRUGLA_BAD_SIDES)
         return "a side of the file's page is not 1 to 8192";
     return sotrugla_ticket_sentence(refusal, ticket, ticket_length);
+}
+
+/* The bytes of the longest sentence, with the zero behind it. */
+enum { SOTRUGLA_SENTENCE_BYTES = 256 };
+
+/* The sentence of a hidden pixel: of the ticket's box of this number. */
+static inline int sotrugla_put_hidden_(char *text, size_t length, size_t column, size_t row,
+                                       uint64_t box, const uint8_t *ticket, size_t ticket_length)
+{
+    struct sotrugla_ticket order;
+    sotrugla_read(ticket, ticket_length, &order);
+    return snprintf(text, length,
+                    "column %llu, row %llu is white because it is hidden by box %d: "
+                    "left %d, top %d, width %d, height %d",
+                    (unsigned long long)column, (unsigned long long)row, (int)box,
+                    (int)order.boxes[box].left, (int)order.boxes[box].top,
+                    (int)order.boxes[box].width, (int)order.boxes[box].height);
+}
+
+/* The sentence of any other pixel; grey is what it comes out as, which is the source's at from. The way is told
+ * unless it is from itself. */
+static inline int sotrugla_put_decided_(char *text, size_t length, size_t column, size_t row,
+                                        const struct sotrugla_reason *reason, int grey)
+{
+    char from[SOTRUGLA_SENTENCE_BYTES] = "it", through[SOTRUGLA_SENTENCE_BYTES] = "";
+    int itself = reason->from_column == column && reason->from_row == row;
+    int direct = reason->through_column == reason->from_column &&
+                 reason->through_row == reason->from_row;
+    if (!itself)
+        snprintf(from, sizeof from, "column %llu, row %llu", (unsigned long long)reason->from_column,
+                 (unsigned long long)reason->from_row);
+    if (reason->kind == SOTRUGLA_TWO_PASSES && !direct)
+        snprintf(through, sizeof through, ", by way of column %llu, row %llu",
+                 (unsigned long long)reason->through_column,
+                 (unsigned long long)reason->through_row);
+    return snprintf(text, length, "column %llu, row %llu is %d because %s is %d%s%s",
+                    (unsigned long long)column, (unsigned long long)row, grey, from, grey,
+                    itself ? " itself" : "", through);
+}
+
+/* Writes what sotrugla_why_job answered for this job, column and row as a sentence for an operator; that of a
+ * refusal is sotrugla_job_sentence.
+ *   text      written as snprintf writes: as much of the sentence as has room, and a zero behind it.
+ *             SOTRUGLA_SENTENCE_BYTES are always enough; where length is 0 nothing is written
+ * Answers the bytes of the whole sentence without the zero. */
+static inline int sotrugla_job_reason(const struct sotrugla_reason *reason,
+                                      const struct sotrugla_job *job, size_t column, size_t row,
+                                      char *text, size_t length)
+{
+    if (reason->refusal)
+        return snprintf(text, length, "%s", sotrugla_job_sentence(reason->refusal, job));
+    if (reason->kind == SOTRUGLA_HIDDEN_BOX)
+        return sotrugla_put_hidden_(text, length, column, row, reason->box, job->ticket,
+                                    job->ticket_length);
+    return sotrugla_put_decided_(text, length, column, row, reason,
+                                 job->source[job->source_offset +
+                                             reason->from_row * job->source_stride +
+                                             reason->from_column]);
+}
+
+/* The same for sotrugla_why_pgm; the sentence of a refusal is sotrugla_file_sentence. */
+static inline int sotrugla_file_reason(const struct sotrugla_reason *reason, const uint8_t *ticket,
+                                       size_t ticket_length, const uint8_t *file,
+                                       size_t file_length, size_t column, size_t row, char *text,
+                                       size_t length)
+{
+    struct sotrugla_pgm shown = sotrugla_read_pgm(file, file_length);
+    if (reason->refusal)
+        return snprintf(text, length, "%s",
+                        sotrugla_file_sentence(reason->refusal, ticket, ticket_length));
+    if (reason->kind == SOTRUGLA_HIDDEN_BOX)
+        return sotrugla_put_hidden_(text, length, column, row, reason->box, ticket, ticket_length);
+    return sotrugla_put_decided_(
+        text, length, column, row, reason,
+        file[shown.start + reason->from_row * shown.width + reason->from_column]);
 }
 
 #ifdef __cplusplus

@@ -23,6 +23,8 @@
 //! of them. A page that arrives as a raw Netpbm grey file (P5) leaves as one: [`filter_pgm`] takes the
 //! file's bytes and gives those of another.
 //!
+//! And of any pixel the crate names the reason why it comes out so: [`why`], [`Page::why`] and [`why_pgm`].
+//!
 //! # From another crate
 //!
 //! Sotrugla's `./build` comes first: it writes the library that this crate links. Then, in `Cargo.toml`,
@@ -55,12 +57,14 @@
 mod library;
 mod page;
 mod pgm;
+mod reason;
 mod refusal;
 mod ticket;
 mod tray;
 
 pub use page::{filter, Page, Spot};
 pub use pgm::{filter_pgm, read_pgm, Pgm, Written};
+pub use reason::{why, why_pgm, Pixel, Reason};
 pub use refusal::{Refusal, Refused};
 pub use ticket::{HiddenBox, Line, Operation, Ticket, TicketBytes};
 pub use tray::{filter_tray, TrayJob};

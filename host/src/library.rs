@@ -26,6 +26,23 @@ pub struct Written {
     pub length: u64,
 }
 
+#[repr(C)]
+pub struct Reason {
+    pub refusal: u64,
+    pub place: u64,
+    pub kind: u64,
+    pub r#box: u64,
+    pub phase: u64,
+    pub through_column: u64,
+    pub through_row: u64,
+    pub from_column: u64,
+    pub from_row: u64,
+}
+
+/// Two of the kinds of reasons; the third is 4, of two passes.
+pub const HIDDEN_BOX: u64 = 1;
+pub const ONE_PASS: u64 = 3;
+
 /// The longest header that `sotrugla_run_pgm` writes.
 pub const PGM_HEADER: usize = 17;
 
@@ -100,4 +117,21 @@ extern "C" {
         scratch: *mut u8,
         scratch_length: usize,
     ) -> Written;
+
+    pub fn sotrugla_why(
+        ticket: *const u8,
+        ticket_length: usize,
+        width: usize,
+        height: usize,
+        source_offset: usize,
+        source_stride: usize,
+        output_offset: usize,
+        output_stride: usize,
+        source: *const u8,
+        source_length: usize,
+        output_length: usize,
+        scratch_length: usize,
+        column: usize,
+        row: usize,
+    ) -> Reason;
 }

@@ -45,13 +45,13 @@ pub fn read_pgm(file: &[u8]) -> Result<Pgm, Refused> {
     Ok(Pgm { width, height, maximum: answer.maximum as u8, start: answer.start as usize })
 }
 
-fn answered(file: &[u8]) -> library::Pgm {
+pub(crate) fn answered(file: &[u8]) -> library::Pgm {
     // SAFETY: pointer and length are one slice's, which is only read.
     unsafe { library::sotrugla_read_pgm(file.as_ptr(), file.len()) }
 }
 
 /// A page of the file's sides; a refused file answers 0 for them.
-fn page_of(answer: &library::Pgm) -> Page {
+pub(crate) fn page_of(answer: &library::Pgm) -> Page {
     Page::alone(answer.width as usize, answer.height as usize)
 }
 

@@ -4,9 +4,9 @@ use crate::page::Page;
 use std::error::Error;
 use std::fmt;
 
-/// Why a job, or a whole list of jobs, is refused; the value is the refusal's number. 1 to 25 are kept for
-/// the law's refusals, of which later versions may know more: so a `match` needs an arm for those it does
-/// not name.
+/// Why a job, a whole list of jobs or a question about a pixel is refused; the value is the refusal's number.
+/// 1 to 25 are kept for the law's refusals, of which later versions may know more: so a `match` needs an arm
+/// for those it does not name.
 #[non_exhaustive]
 #[derive(Clone, Copy, Debug, PartialEq, Eq)]
 pub enum Refusal {
@@ -28,13 +28,14 @@ pub enum Refusal {
     BadMaximum = 16,
     BadPixel = 17,
     TooManyJobs = 18,
+    PixelOffPage = 19,
     NumbersTooFew = 100,
 }
 
 use Refusal::*;
 
 /// All of them, in the order of their numbers.
-const SENTENCES: [(Refusal, &str); 19] = [
+const SENTENCES: [(Refusal, &str); 20] = [
     (TicketEnds, "the ticket ends inside a field, or before one of its first six fields"),
     (WrongTag, "a field has another tag than the one due"),
     (WrongLength, "a field has the wrong length"),
@@ -56,6 +57,7 @@ const SENTENCES: [(Refusal, &str); 19] = [
     (BadMaximum, "the file's maximum is above 255"),
     (BadPixel, "a pixel of the file is above its maximum, or the file has too few pixels"),
     (TooManyJobs, "the list has more than 256 jobs"),
+    (PixelOffPage, "the pixel is off the page"),
     (NumbersTooFew, "the buffer of numbers is too short"),
 ];
 
@@ -106,9 +108,9 @@ fn placement_sentence(page: Page) -> &'static str {
     }
 }
 
-/// A refused job, or a refused list (18). The place is the ticket's byte where the field at fault starts
-/// (refusals 1 to 9), the number of the box from 0 (14), the file's first byte at fault, or its length
-/// where it ends too soon (15 to 17), the numbers needed (100), else 0.
+/// A refused job, a refused list (18) or a refused question about a pixel (19). The place is the ticket's byte
+/// where the field at fault starts (refusals 1 to 9), the number of the box from 0 (14), the file's first byte
+/// at fault, or its length where it ends too soon (15 to 17), the numbers needed (100), else 0.
 #[derive(Clone, Copy, Debug, PartialEq, Eq)]
 pub struct Refused {
     pub refusal: Refusal,
@@ -176,7 +178,7 @@ mod tests {
 
     #[test]
     fn sentences_stand_in_the_order_of_the_numbers() {
-        for ((refusal, sentence), number) in SENTENCES.into_iter().zip((1..=18).chain([100])) {
+        for ((refusal, sentence), number) in SENTENCES.into_iter().zip((1..=19).chain([100])) {
             assert_eq!(refusal.number(), number);
             assert_eq!(refusal.sentence(), sentence);
         }

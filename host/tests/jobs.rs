@@ -120,7 +120,8 @@ fn is_of_today(refusal: Refusal) -> bool {
         TicketEnds | WrongTag | WrongLength | Unknown | TooManyBoxes => true,
         BadVector | BadLength | BadOrigin | BadPhase | BadSides => true,
         SourceTooShort | OutputTooShort | ScratchTooShort | BadBox => true,
-        BadHeader | BadMaximum | BadPixel | TooManyJobs | NumbersTooFew => true,
+        BadHeader | BadMaximum | BadPixel | TooManyJobs | PixelOffPage => true,
+        NumbersTooFew => true,
         _ => false,
     }
 }

@@ -24,6 +24,12 @@ A whole tray is filtered in one call: run_tray takes a list of up to 256 such jo
     >>> [result.work for result in run_tray(jobs, bytes([9, 1, 5, 77, 7, 3, 8]), bytearray(7))]
     [6, 6]
 
+And of any pixel the reason is named why it comes out so: by why for a page of a tray, by why_pgm for a file, and by
+why_array for a page that is an array or an image.
+
+    >>> print(why(ticket, page, bytes([77, 9, 1, 5, 77]), column=0, row=0))
+    column 0, row 0 is 1 because column 1, row 0 is 1, by way of column 0, row 0
+
 Trays may be any buffers of bytes in one piece: bytes, bytearray, memoryview, mmap, arrays of uint8. They are lent, not
 copied. Lengths are taken from the buffers, numbers are passed by name, and buffers that overlap are refused, so a call
 is hard to get wrong. Two things are left to the caller. Other threads run on during a call, and must keep off its
@@ -32,11 +38,12 @@ where its size can be known, as on Linux, and elsewhere may end the process.
 """
 
 # Before the imports: the library is held to it as it is loaded.
-__version__ = "0.5.0"
+__version__ = "0.6.0"
 
-from .arrays import closing, dilation, erosion, opening
+from .arrays import closing, dilation, erosion, opening, why_array
 from .files import Pgm, Written, read_pgm, run_pgm
 from .lists import Result, TrayJob, run_tray
+from .reasons import HIDDEN_BOX, ONE_PASS, TWO_PASSES, Pixel, Reason, why, why_pgm
 from .refusals import SENTENCES, Refused
 from .tickets import (
     CLOSE,
@@ -57,12 +64,17 @@ __all__ = [
     "CONNECTED",
     "DILATE",
     "ERODE",
+    "HIDDEN_BOX",
+    "ONE_PASS",
     "OPEN",
     "PERIODIC",
     "SENTENCES",
+    "TWO_PASSES",
     "HiddenBox",
     "Page",
     "Pgm",
+    "Pixel",
+    "Reason",
     "Refused",
     "Result",
     "Spot",
@@ -80,4 +92,7 @@ __all__ = [
     "run_pgm",
     "run_tray",
     "scratch_needed",
+    "why",
+    "why_array",
+    "why_pgm",
 ]

@@ -1,4 +1,4 @@
-"""Pages as arrays and images: the four filters by the names that scikit-image gives them.
+"""Pages as arrays and images: the four filters by the names that scikit-image gives them, and the reasons of pixels.
 
 A page is a two-dimensional numpy array of uint8, a Pillow image of mode "L", or another two-dimensional buffer of
 bytes; the answer is a new page of the same kind, or a two-dimensional memoryview for another buffer. Neither numpy nor
@@ -7,11 +7,13 @@ Pillow is needed: whoever has a page of theirs has imported them.
 
 from __future__ import annotations
 
+import contextlib
 import sys
 import types
 import typing
 
 from .lending import Lent, address, lent, viewed
+from .reasons import Reason, pixel_of, why_lent
 from .refusals import WIDEST_STRIDE
 from .tickets import Boxes, Origin, Ticket, Vector
 from .trays import Page, Spot, run_lent
@@ -89,23 +91,28 @@ def closing(
     return _filtered(ticket, array)
 
 
+def why_array(ticket: Ticket, array: Pixels, *, column: int, row: int) -> Reason:
+    """Names the reason why a pixel of a page comes out as it does, which the filter that makes such a ticket filters.
+    Raises Refused; 19 is a pixel off the page.
+
+    >>> row = memoryview(bytes([9, 1, 5])).cast("B", [1, 3])
+    >>> print(why_array(Ticket.erosion(along=(1, 0), length=3), row, column=0, row=0))
+    column 0, row 0 is 1 because column 1, row 0 is 1
+    """
+    with _lent_page(array) as (page, tray):
+        return why_lent(ticket, page, tray, pixel_of(column, row))
+
+
 def _filtered(ticket: Ticket, array: Pixels) -> Pixels:
+    with _lent_page(array) as (page, tray):
+        output = bytearray(page.width * page.height)
+        run_lent(ticket, page, tray, Spot(0, page.width), output)
     pillow, numpy = _owner(array, "PIL.Image", "Image"), _owner(array, "numpy", "ndarray")
     if pillow is not None:
-        return _filtered_image(ticket, array, pillow)
-    if _owner(array, "numpy.ma", "MaskedArray") is not None:
-        raise TypeError("the page is a masked array, whose mask would be lost: name what is hidden by hide=")
-    with viewed(array, "the page", (2,)) as view:
-        height, width = view.shape
-        stride = _stride(view)
-        if stride is not None:
-            output = _filtered_view(ticket, view, stride)
-        else:
-            # numpy gathers pixels that stand apart many times as fast as a memoryview.
-            pixels = view.tobytes() if numpy is None else numpy.ndarray.tobytes(array)
-            output = _filtered_bytes(ticket, width, height, pixels)
-    page = memoryview(output).cast("B", [height, width])
-    return page if numpy is None else numpy.asarray(page)
+        # A new image of the pixels alone: what else an image carries may hold a small picture of the page, unhidden.
+        return pillow.frombytes("L", (page.width, page.height), bytes(output))
+    rows = memoryview(output).cast("B", [page.height, page.width])
+    return rows if numpy is None else numpy.asarray(rows)
 
 
 def _owner(value: object, module: str, name: str) -> typing.Optional[types.ModuleType]:
@@ -114,12 +121,33 @@ def _owner(value: object, module: str, name: str) -> typing.Optional[types.Modul
     return found if isinstance(value, getattr(found, name, ())) else None
 
 
-def _filtered_image(ticket: Ticket, image: Pixels, pillow: types.ModuleType) -> Pixels:
-    """A new image of the pixels alone: what else an image carries may hold a small picture of the page, unhidden."""
+@contextlib.contextmanager
+def _lent_page(array: Pixels) -> typing.Iterator[tuple[Page, Lent]]:
+    """The page where it stands, and with it what stands between its rows; or a copy, where its pixels do not stand as a
+    placement has them."""
+    with contextlib.ExitStack() as stack:
+        if _owner(array, "PIL.Image", "Image") is not None:
+            yield stack.enter_context(_lent_copy(*_image_pixels(array)))
+            return
+        if _owner(array, "numpy.ma", "MaskedArray") is not None:
+            raise TypeError("the page is a masked array, whose mask would be lost: name what is hidden by hide=")
+        view = stack.enter_context(viewed(array, "the page", (2,)))
+        height, width = view.shape
+        stride = _stride(view)
+        if stride is None:
+            # numpy gathers pixels that stand apart many times as fast as a memoryview.
+            numpy = _owner(array, "numpy", "ndarray")
+            pixels = view.tobytes() if numpy is None else numpy.ndarray.tobytes(array)
+            yield stack.enter_context(_lent_copy(width, height, pixels))
+            return
+        length = (height - 1) * stride + width if view.nbytes else 0
+        yield Page(0, width, height, stride), Lent(stack.enter_context(address(view)), length)
+
+
+def _image_pixels(image: Pixels) -> tuple[int, int, bytes]:
     if image.mode != "L":
         raise TypeError(f"the image has mode {image.mode!r}, not 'L': convert it to grey first, by image.convert('L')")
-    width, height = image.size
-    return pillow.frombytes("L", (width, height), bytes(_filtered_bytes(ticket, width, height, image.tobytes())))
+    return (*image.size, image.tobytes())
 
 
 def _stride(view: memoryview) -> typing.Optional[int]:
@@ -129,21 +157,8 @@ def _stride(view: memoryview) -> typing.Optional[int]:
     return stride if step == 1 and width <= stride <= WIDEST_STRIDE else None
 
 
-def _filtered_view(ticket: Ticket, view: memoryview, stride: int) -> bytearray:
-    """The page is lent where it stands, and with it what stands between its rows."""
-    height, width = view.shape
-    length = (height - 1) * stride + width if view.nbytes else 0
-    with address(view) as start:
-        return _filtered_tray(ticket, Page(0, width, height, stride), Lent(start, length))
-
-
-def _filtered_bytes(ticket: Ticket, width: int, height: int, pixels: bytes) -> bytearray:
+@contextlib.contextmanager
+def _lent_copy(width: int, height: int, pixels: bytes) -> typing.Iterator[tuple[Page, Lent]]:
+    """The pixels, row by row without gaps."""
     with lent(pixels, "the page") as tray:
-        return _filtered_tray(ticket, Page(0, width, height, width), tray)
-
-
-def _filtered_tray(ticket: Ticket, page: Page, tray: Lent) -> bytearray:
-    """The filtered page, its rows without gaps."""
-    output = bytearray(page.width * page.height)
-    run_lent(ticket, page, tray, Spot(0, page.width), output)
-    return output
+        yield Page(0, width, height, width), tray

@@ -23,6 +23,10 @@ class Lent(typing.NamedTuple):
         """A copy of so many first bytes, or of all where there are fewer."""
         return ctypes.string_at(self.address, min(count, self.length))
 
+    def byte(self, at: int) -> int:
+        """The byte that so many stand before."""
+        return ctypes.c_uint8.from_address(self.address + at).value
+
     def overlaps(self, other: Lent) -> bool:
         """Whether they share a byte. An empty one shares none."""
         first, end = max(self.address, other.address), min(self.address + self.length, other.address + other.length)

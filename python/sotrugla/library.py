@@ -35,6 +35,12 @@ class _Written(ctypes.Structure):
     _fields_ = _numbers("refusal", "place", "work", "length")
 
 
+class _Reason(ctypes.Structure):
+    _fields_ = _numbers(
+        "refusal", "place", "kind", "box", "phase", "through_column", "through_row", "from_column", "from_row"
+    )
+
+
 _BUFFER = [ctypes.c_void_p, ctypes.c_size_t]
 # By the functions' names: what they answer, and what they take.
 _FUNCTIONS: dict[str, tuple[typing.Any, list[typing.Any]]] = {
@@ -45,6 +51,7 @@ _FUNCTIONS: dict[str, tuple[typing.Any, list[typing.Any]]] = {
     "sotrugla_is_hidden": (ctypes.c_uint64, _BUFFER + [ctypes.c_size_t] * 2),
     "sotrugla_read_pgm": (_Pgm, _BUFFER),
     "sotrugla_run_pgm": (_Written, _BUFFER * 4),
+    "sotrugla_why": (_Reason, _BUFFER + [ctypes.c_size_t] * 6 + _BUFFER + [ctypes.c_size_t] * 4),
 }
 
 

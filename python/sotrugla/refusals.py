@@ -25,6 +25,7 @@ SENTENCES = {
     16: "the file's maximum is above 255",
     17: "a pixel of the file is above its maximum, or the file has too few pixels",
     18: "the list has more than 256 jobs",
+    19: "the pixel is off the page",
     100: "the buffer of numbers is too short",
 }
 
@@ -62,10 +63,10 @@ class Placements(typing.NamedTuple):
 
 
 class Refused(Exception):
-    """A refused job, or a refused list (18): its number, its place and a sentence that says what was wrong. The place
-    is the ticket's byte where the field at fault starts (1 to 9), the number of the box from 0 (14), the file's first
-    byte at fault, or its length where it ends too soon (15 to 17), the numbers needed (100), else 0. Nothing was
-    written.
+    """A refused job, a refused list (18) or a refused question about a pixel (19): its number, its place and a sentence
+    that says what was wrong. The place is the ticket's byte where the field at fault starts (1 to 9), the number of the
+    box from 0 (14), the file's first byte at fault, or its length where it ends too soon (15 to 17), the numbers needed
+    (100), else 0. Nothing was written.
 
     >>> print(Refused(7, 15))
     refused 7 at 15: the segment length is 0 or above 8192 (the field at byte 15 of the ticket)

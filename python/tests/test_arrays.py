@@ -116,7 +116,7 @@ class Arrays(unittest.TestCase):
     def is_opened(self, page, lent):
         """Whether the page is lent, or copied first, is told by who filters it."""
         before = page.copy()
-        with unittest.mock.patch.object(arrays, "_filtered_bytes", wraps=arrays._filtered_bytes) as copied:
+        with unittest.mock.patch.object(arrays, "_lent_copy", wraps=arrays._lent_copy) as copied:
             found = sotrugla.opening(page, along=(1, 0), length=4)
         self.assertEqual((type(found), found.dtype, found.shape), (numpy.ndarray, numpy.uint8, page.shape))
         self.assertEqual(found.tolist(), opened(memoryview(numpy.ascontiguousarray(page))))

@@ -227,7 +227,8 @@ static void see_other_sentences(void)
     SEE(same(sotrugla_sentence(SOTRUGLA_BAD_VECTOR), "the vector is not allowed"));
     SEE(same(sotrugla_sentence(SOTRUGLA_NUMBERS_TOO_FEW), "the buffer of numbers is too short"));
     SEE(same(sotrugla_sentence(SOTRUGLA_TOO_MANY_JOBS), "the list has more than 256 jobs"));
-    SEE(same(sotrugla_sentence(19), "unknown refusal"));
+    SEE(same(sotrugla_sentence(SOTRUGLA_PIXEL_OFF_PAGE), "the pixel is off the page"));
+    SEE(same(sotrugla_sentence(20), "unknown refusal"));
 }
 
 static void see_version(void)

@@ -17,7 +17,7 @@ _OPENED = ("BMP", "JPEG", "PNG", "TIFF")
 _BEGINNINGS = (b"BM", b"\xff\xd8\xff", b"\x89PNG", b"II*\0", b"MM\0*")
 _SAVED = {".bmp": "BMP", ".png": "PNG", ".tif": "TIFF", ".tiff": "TIFF"}
 _LOSSLESS = ("group3", "group4", "packbits", "tiff_adobe_deflate", "tiff_lzw")
-_MISSING = "Pillow is not installed (pip install Pillow)"
+MISSING = "Pillow is not installed (pip install Pillow)"
 
 JPEG = (".jpg", ".jpeg")
 # Endings of a page's file.
@@ -46,7 +46,7 @@ def ending(name: str) -> str:
 def opened(name: str, content: bytes) -> Tuple[bytes, Kept]:
     """The page as a P5 file, and what is kept. A file that Pillow does not know is handed on as it is: the proved
     reader refuses it."""
-    pillow = None if content.startswith(b"P5") else _pillow()
+    pillow = None if content.startswith(b"P5") else installed_pillow()
     if pillow is None:
         return content, Kept()
     try:
@@ -63,24 +63,24 @@ def opened(name: str, content: bytes) -> Tuple[bytes, Kept]:
 
 def hint(content: bytes) -> str:
     """What would help with a file that the proved reader refused."""
-    return f"; {_MISSING}" if content.startswith(_BEGINNINGS) and _pillow() is None else ""
+    return f"; {MISSING}" if content.startswith(_BEGINNINGS) and installed_pillow() is None else ""
 
 
 def saved(name: str, page: bytes, kept: Kept) -> bytes:
     """A finished page, which is a P5 file, in the format that its name ends in."""
     if ending(name) not in _SAVED:
         return page
-    pillow = _pillow()
+    pillow = installed_pillow()
     if pillow is None:
-        raise ImportError(_MISSING)
+        raise ImportError(MISSING)
     shown = sotrugla.read_pgm(page)
-    image = pillow.Image.frombytes("L", (shown.width, shown.height), _up_to_white(page[shown.start :], shown.maximum))
+    image = pillow.Image.frombytes("L", (shown.width, shown.height), up_to_white(page[shown.start :], shown.maximum))
     file = io.BytesIO()
     (image.convert("1") if kept.bilevel else image).save(file, _SAVED[ending(name)], **kept.said)
     return file.getvalue()
 
 
-def _pillow() -> Any:
+def installed_pillow() -> Any:
     """The package, where it is installed. It is asked for only where a page needs it, as it takes time to load."""
     try:
         import PIL.Image
@@ -121,6 +121,6 @@ def _kept(image: Any) -> Kept:
     return Kept(image.mode == "1", said)
 
 
-def _up_to_white(pixels: bytes, maximum: int) -> bytes:
+def up_to_white(pixels: bytes, maximum: int) -> bytes:
     """White is 255 in these formats, and the maximum in a P5 file. No two greys become one."""
     return pixels.translate(bytes(min(255, (510 * grey + maximum) // (2 * maximum)) for grey in range(256)))

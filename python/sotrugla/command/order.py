@@ -36,16 +36,18 @@ def _ready(options: argparse.Namespace) -> bytes:
     if given:
         raise Misused(f"--ticket orders everything; leave out {', '.join(given)}")
     content = files.read(options.ticket)
-    ordered = _read(options.ticket, content).operation
-    if ordered != WORDS[options.word].operation:
-        raise Misused(f"{options.ticket} orders {word_of(ordered)}, not {options.word}")
+    ordered = word_of(_read(options.ticket, content).operation)
+    if options.operation not in (None, ordered):
+        raise Misused(f"{options.ticket} orders {ordered}, not {options.operation}")
     return content
 
 
 def _made(options: argparse.Namespace) -> bytes:
+    if options.operation is None:
+        raise Misused("give --operation, --along and --length, or --ticket")
     if options.along is None or options.length is None:
         raise Misused("give --along and --length, or --ticket")
-    ticket = WORDS[options.word].make(
+    ticket = WORDS[options.operation].make(
         along=(options.along.dx, options.along.dy),
         length=options.length,
         origin="centre" if options.origin is None else options.origin,

@@ -12,7 +12,7 @@ from .support import CommandCase
 
 class Help(CommandCase):
     def test_fits_a_screen_with_examples(self):
-        for word in ("", "erode", "dilate", "open", "close", "tray"):
+        for word in ("", "erode", "dilate", "open", "close", "tray", "why"):
             words = [word, "--help"] if word else ["-h"]
             status, written, said = self.run_apart(*words)
             lines = written.decode().splitlines()
