@@ -7,6 +7,8 @@
  *   reading      page, drawing, dx, dy, L, pixels, seconds of reading its P5 file, of an opening
  *   tray         page, drawing, dx, dy, L, which jobs finish, jobs, pairs timed, seconds of a call for each job, of one
  *                call for all, the latter as a multiple of the former
+ *   why          page, drawing, operation, dx, dy, L, boxes, pixels asked about, seconds of the longest answer, of the
+ *                operation on the page
  * bench/report.py makes the table of it. With --quick a small part is measured. */
 #include <malloc.h>
 #include <stdio.h>
@@ -19,6 +21,7 @@
 #include "reading.h"
 #include "timing.h"
 #include "tray.h"
+#include "why.h"
 
 enum { BOXES = 64 };
 
@@ -160,6 +163,7 @@ int main(int count, char **words)
     repeat_document001(quick ? 15 : 1, 3);
     measure_reading(quick ? &QUICK_PLAN : &A4_PLAN);
     measure_tray(quick ? &QUICK_PLAN : &A4_PLAN);
+    measure_why(quick ? &QUICK_PLAN : &A4_PLAN);
     measure(quick ? &QUICK_PLAN : &A4_PLAN);
     if (!quick)
         measure(&LARGEST_PLAN);

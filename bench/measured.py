@@ -44,6 +44,15 @@ class Tray(typing.NamedTuple):
     ratio: float
 
 
+class Question(typing.NamedTuple):
+    """Seconds of the longest answer to why a pixel came out so, of so many asked about, and of the job itself."""
+
+    boxes: int
+    asked: int
+    longest: float
+    job: float
+
+
 class Copy(typing.NamedTuple):
     """ns a pixel of a memcpy of the page, and of one through pages in turn."""
 
@@ -60,7 +69,7 @@ class Measured:
     def __init__(self, path):
         self.facts, self.versions, self.checked = {}, {}, []
         self.copies, self.times = {}, collections.defaultdict(dict)
-        self.document001, self.readings, self.trays = collections.defaultdict(list), {}, {}
+        self.document001, self.readings, self.trays, self.questions = collections.defaultdict(list), {}, {}, {}
         with open(path, encoding="utf-8") as lines:
             for line in lines:
                 self._take(*line.rstrip("\n").split("\t"))
@@ -81,6 +90,8 @@ class Measured:
             self._take_reading(*words)
         elif kind == "tray":
             self._take_tray(*words)
+        elif kind == "why":
+            self._take_question(*words)
         else:
             self.facts[kind] = words[0]
 
@@ -96,6 +107,11 @@ class Measured:
     def _take_tray(self, page, drawing, dx, dy, length, finished, jobs, pairs, *figures):
         case = Case(page, drawing, "opening", (int(dx), int(dy)), int(length))
         self.trays[f"{case}, {finished}"] = Tray(int(jobs), int(pairs), *map(float, figures))
+
+    def _take_question(self, page, drawing, operation, dx, dy, length, boxes, asked, *seconds):
+        case = Case(page, drawing, operation, (int(dx), int(dy)), int(length))
+        with_boxes = f"{case}, {boxes} boxes" if int(boxes) else str(case)
+        self.questions[with_boxes] = Question(int(boxes), int(asked), *map(float, seconds))
 
     def copy_of(self, case):
         return self.copies[case.page, case.drawing]

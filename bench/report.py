@@ -114,9 +114,18 @@ def trays(measured):
     yield ""
 
 
+def questions(measured):
+    yield "Why a pixel came out so (sotrugla_why): the longest answer, of pixels from end to end, beside the job"
+    for case, question in measured.questions.items():
+        times = f"{1e3 * question.longest:.3f} ms of {question.asked} pixels, the job {1e3 * question.job:.3f} ms"
+        yield f"{case}: {times}; answer / job {question.longest / question.job:.4f}"
+    yield ""
+
+
 def main(measured_path, table_path, plot_path):
     measured = Measured(measured_path)
     lines = [*head(measured), *table(measured), *document001(measured), *readings(measured), *trays(measured)]
+    lines += questions(measured)
     lines += verdicts.lines(measured)
     text = "\n".join(lines) + "\n"
     with open(table_path, "w", encoding="utf-8") as out:

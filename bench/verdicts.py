@@ -14,6 +14,7 @@ def lines(measured):
     yield from _cheap_boxes(measured)
     yield from _cheap_reading(measured)
     yield from _cheap_lists(measured)
+    yield from _prompt_answers(measured)
 
 
 def _verdict(what, figures, limit, least=False, digits=2):
@@ -89,3 +90,11 @@ def _cheap_lists(measured):
     yield "(f) lists of jobs"
     what = f"256 jobs in one call, at most {ONE_TO_EACH} times 256 calls"
     yield from _verdict(what, figures, ONE_TO_EACH, digits=3)
+
+
+def _prompt_answers(measured):
+    usual = {case: 1e3 * one.longest for case, one in measured.questions.items() if case.startswith("A4")}
+    longest = {case: one.longest for case, one in measured.questions.items() if not case.startswith("A4")}
+    yield "(g) why a pixel came out so"
+    yield from _verdict("an answer of an A4 page at L = 51, in milliseconds at most 1", usual, 1, digits=3)
+    yield from _verdict("one of 8192 by 1 pixels at L = 8192, in seconds at most 1", longest, 1, digits=3)
