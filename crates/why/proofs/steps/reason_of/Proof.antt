@@ -45,8 +45,7 @@ by-steps-requires c κs =
     let start = c .before .before .before .before .before .before .before .before .before .before in
     let found = c .before .before .before .before .before .before .before .first-of .ensures in (
       start .pre,
-      let past = c .before .before .before .before .before .if1 .left in
-    (
+      let past = c .before .before .before .before .before .if1 .left in (
         shows (start .args .t) (start .args .at) _ (found .0) (found .1) past,
         (
           c .before .before .before .before .no-entries .ensures,
