@@ -56,7 +56,9 @@ named-in-requires c κs =
     (table .0 ∙ start .pre .1 .1 .0) (table .1)
 
 same-length : tie.Need-same-length
-same-length c = c .before .before .before .before .before .before .before .before .before .before .fill-profile .ensures .0
+same-length c =
+    let tabled = c .before .before .before .before .before .before .before .before .before .before in
+    tabled .fill-profile .ensures .0
 
 same-length-2 : tie.Need-same-length-2
 same-length-2 c = c .before .before .before .before .before .fill-row .ensures .0
