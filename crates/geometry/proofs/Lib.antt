@@ -1,4 +1,5 @@
 -- What the proofs of several functions use.
-mod Profiles
+mod Pens
+mod Components
 mod Tables
 mod Numbers

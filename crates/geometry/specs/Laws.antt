@@ -1,11 +1,13 @@
 -- The laws of lines: all that a layer above may use, with every definition of Vector, Line, Number, Drift and Flip left
--- shut. Those under 'D' say what D is, for readers; no crate above cites them. None of the others shows it, or how a
--- number on a line is found, so the rule for ties in D and the way the tables are computed can change below them. Only
--- the statements are to be read; their proofs stand behind them, in Laws/.
+-- shut. Those under 'D' say what D is, and those under 'the running error' how it is drawn, for readers; no crate above
+-- cites them. None of the others shows it, or how a number on a line is found, so the rule for ties in D and the way
+-- the tables are computed can change below them. Only the statements are to be read; their proofs stand behind them, in
+-- Laws/.
 -- In each, t = stepOf l M is the step at which a pixel (M, m) stands on its line, x = mirrored (falls l) W m its place
 -- on the minor axis in normal form, H and W are the page's sides on the major and the minor axis.
 -- Assumes nothing.
 pub mod Counting
+pub mod Error
 pub mod Flip
 pub mod Integers
 pub mod Nearest
@@ -34,7 +36,9 @@ use Rattle.geometry.specs.Number.{within, inPage, behind, ahead}
 use Rattle.geometry.specs.Drift.{Sound, Allowed, Inside, StepIn, Lands, First}
 use Rattle.geometry.specs.Drift.{falls, drift, signed, mirrored, first, reach}
 use Rattle.geometry.specs.Flip.{flipped}
+use Rattle.geometry.specs.Bresenham.{error, penAt}
 use Rattle.geometry.specs.Laws.Counting as counting
+use Rattle.geometry.specs.Laws.Error as running
 use Rattle.geometry.specs.Laws.Flip as flip
 use Rattle.geometry.specs.Laws.Nearest as nearly
 use Rattle.geometry.specs.Laws.Normal as normal
@@ -117,6 +121,19 @@ D-signed a z c = nearly.D-signed a z c
 
 pub D-negated : (a : ℕ) (z : ℤ) (c : ℕ) → 1 ≤ a → D a (negℤ z) c ≡ negℤ (D a z c)
 D-negated a z c h = nearly.D-negated a z c h
+
+-- ---- the running error: at each column c it is the remainder of the rounded quotient, (2·c·b + a) / 2a, whose whole
+-- part is the row. A row and an error that make 2·c·b + a so, the error below 2a, are the pen's there, and no others
+
+pub error-is : (a b c : ℕ) → nearest a b c * (2 * a) + error a b c ≡ 2 * c * b + a
+error-is a b c = running.error-is a b c
+
+pub error-below : (a b c : ℕ) → 1 ≤ a → error a b c < 2 * a
+error-below a b c h = running.error-below a b c h
+
+pub pen-is : (a b c q e : ℕ) → 1 ≤ a → e < 2 * a → q * (2 * a) + e ≡ 2 * c * b + a
+    → penAt a b c ≡ record { column = c; row = q; error = e }
+pen-is a b c q e h small whole = running.pen-is a b c q e h small whole
 
 -- ---- the drift
 

@@ -1,4 +1,4 @@
--- What the code's contracts speak of: numbers small enough to compute with, a pixel of a page, the tables of a line.
+-- What the code's contracts speak of: a pixel of a page, the tables of a line.
 -- Assumes nothing.
 use mathlib.Core.Path.{_≡_}
 use mathlib.Core.List.{List}
@@ -7,17 +7,13 @@ use lib.ListN.{length, getD}
 use Rattle.geometry.specs.Drift.{Allowed, drift, reach}
 use Rattle.geometry.specs.declared.Line.{Line}
 
--- what the code computes the size of D from: the sizes of components as a ticket has them, and a column of the page,
--- shifted by a phase
-pub record Slight (major minor c : ℕ) : Type 0 where
-  pub forward : 1 ≤ major
-  pub major-near : major ≤ 255
-  pub minor-near : minor ≤ 255
-  pub column : c < 16384
-
 -- a table whose entry t is the drift at step t
 pub record ProfileTable (l : Line) (table : List ℕ) : Type 0 where
   pub entry : (t : ℕ) → t < length table → getD table t 0 ≡ drift l t
+
+-- a table whose entry t is t times a number: "Periodic: one step adds (dx, dy)."
+pub record Multiples (minor : ℕ) (table : List ℕ) : Type 0 where
+  pub entry : (t : ℕ) → t < length table → getD table t 0 ≡ t * minor
 
 -- a table whose entry v is the first of n steps that has drifted v places
 pub record ReachTable (l : Line) (n : ℕ) (table : List ℕ) : Type 0 where

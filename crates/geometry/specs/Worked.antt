@@ -1,4 +1,5 @@
 -- Document 01, 'Lines': the three tables of D, the third as document 02, wish 2, has it, and that of (2, 1) beside it.
+-- Document 02, wish 5: the running error of two of them.
 -- Then the numbers of the pixels of three small pages, as a second program written from the documents alone has them: a
 -- falling line with a phase, a steep one that falls, with ties, and a periodic one.
 -- Assumes nothing.
@@ -9,6 +10,7 @@ use mathlib.Core.List.{List, [], _∷_, map}
 use lib.IntN.{ℤ, pos, negsuc}
 use Rattle.vectors.specs.Vector.{shallow, steep, majorOf, minorOf}
 use Rattle.geometry.specs.Line.{nearest, D, shift, period, profile, place, landing, stepOf, majorAt}
+use Rattle.geometry.specs.Bresenham.{error}
 use Rattle.geometry.specs.Number.{within, inPage, count, behind, ahead}
 use Rattle.geometry.specs.declared.Line.{Line}
 
@@ -35,6 +37,16 @@ rowsFrom major minor c (y ∷ ys) = D major minor c ∷ rowsFrom major minor (su
 d-tables : map (λ (t : Table). rowsFrom (t .major) (t .minor) 0 (t .rows)) tables ≡ map (λ (t : Table). t .rows) tables
 unfolding nearest D
 d-tables = refl
+
+-- the running error of (5, 3): it begins with 5, each step adds 6, and with each row 10 is taken back. That of (2, 1)
+-- begins with 2, and each step adds 2: at column 1, the tie, this makes just the 4 that is taken back
+errors : map (error 5 3) (0 ∷ 1 ∷ 2 ∷ 3 ∷ 4 ∷ 5 ∷ []) ≡ 5 ∷ 1 ∷ 7 ∷ 3 ∷ 9 ∷ 5 ∷ []
+unfolding error
+errors = refl
+
+errors-tie : map (error 2 1) (0 ∷ 1 ∷ 2 ∷ 3 ∷ []) ≡ 2 ∷ 0 ∷ 2 ∷ 0 ∷ []
+unfolding error
+errors-tie = refl
 
 -- behind and ahead of the pixel at column c and row r of a page w wide and h high, as one number of two digits
 abbrev numbersAt : Line → ℕ → ℕ → ℕ → ℕ → ℕ

@@ -1,5 +1,5 @@
 -- D: which whole number its size is, how it goes from column to column, and its sign. Only this file and the worked
--- values open D; the code's own proof opens the size, `nearest`.
+-- values open D; Error opens the size, `nearest`, too.
 -- Assumes nothing.
 use mathlib.Core.Path.{_≡_, refl, sym, ap, ap₂, _∙_}
 use mathlib.Core.Bool.{not}

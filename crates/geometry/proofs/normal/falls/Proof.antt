@@ -9,7 +9,7 @@ use borrow.Author.Tests.{le-ltb}
 use native.Mathlib.Omega.{arith}
 use Rattle.vectors.specs.Vector.{minorOf}
 use Rattle.geometry.specs.Drift.{falls}
-use Rattle.geometry.proofs.Profiles.{minor-back}
+use Rattle.geometry.proofs.Components.{minor-back}
 use Rattle.geometry.proofs.normal.falls.Statement.{statement}
 use Rattle.geometry.proofs.normal.falls.Tie as tie
 

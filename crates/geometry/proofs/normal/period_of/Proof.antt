@@ -5,7 +5,7 @@ use mathlib.Core.Bool.{Bool, cond}
 use borrow.Author.Needs.{needs}
 use Rattle.vectors.specs.Vector.{majorOf}
 use Rattle.geometry.specs.Line.{period}
-use Rattle.geometry.proofs.Profiles.{along}
+use Rattle.geometry.proofs.Components.{along}
 use Rattle.geometry.proofs.normal.period_of.Statement.{statement}
 use Rattle.geometry.proofs.normal.period_of.Tie as tie
 

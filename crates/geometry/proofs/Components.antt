@@ -1,8 +1,8 @@
--- The size of D and of the shift as the code computes them: no number on the way leaves the range.
+-- A line's components, as the code passes them on.
 -- Assumes nothing.
 use mathlib.Core.Path.{_≡_, _∙_}
-use Prim.Native.Nat.{ℕ, _+_, _*_, _≤_}
-use native.Mathlib.Nat.{mul-le-mul, le-trans}
+use Prim.Native.Nat.{_≤_}
+use native.Mathlib.Nat.{le-trans}
 use native.Mathlib.Omega.{arith}
 use lib.IntN.{ℤ, pos, negsuc, natAbs}
 use mir.Syntax.{w32}
@@ -11,17 +11,9 @@ use Rattle.vectors.specs.Vector.{majorOf, minorOf}
 use Rattle.vectors.proofs.Bits.{back, near}
 use Rattle.vectors.proofs.Vectors.{part, of-parts, returned}
 use Rattle.geometry.specs.Drift.{Allowed}
-use Rattle.geometry.specs.Tables.{Slight}
+use Rattle.geometry.specs.Bresenham.{Drawable}
 use Rattle.geometry.specs.Laws.{major-near}
 use Rattle.geometry.specs.declared.Line.{Line}
-
--- twice the true line's rise
-pub rise-near : (major minor c : ℕ) → Slight major minor c → 2 * c * minor ≤ 8355840
-rise-near major minor c h =
-    let column : c ≤ 16384 = omega (arith, h .column) in
-    omega (arith, mul-le-mul column (h .minor-near))
-
--- ---- a line's components
 
 module _ (l : Line) (h : Allowed l) where
   component-fits : (z : ℤ) → natAbs z ≤ 255 → SFits w32 z
@@ -41,11 +33,6 @@ module _ (l : Line) (h : Allowed l) where
       returned r (minorOf (l .dx) (l .dy)) (near (minorOf (l .dx) (l .dy)) (omega (arith, minor-low)))
       (e ∙ along minorOf)
 
-  pub slight : (t : ℕ) → t ≤ 8192 → Slight (majorOf (l .dx) (l .dy)) (natAbs (minorOf (l .dx) (l .dy))) (t + l .phase)
-  slight t k =
-      record {
-        forward = h .sound .forward;
-        major-near = major-near l h;
-        minor-near = minor-low;
-        column = omega (arith, h .phase-near);
-      }
+  -- the sizes of the two components are such that the plotter draws them
+  pub drawable : Drawable (majorOf (l .dx) (l .dy)) (natAbs (minorOf (l .dx) (l .dy)))
+  drawable = record { forward = h .sound .forward; near = major-near l h; slope = h .sound .slope }
