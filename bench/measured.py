@@ -53,6 +53,13 @@ class Question(typing.NamedTuple):
     job: float
 
 
+class Drawing(typing.NamedTuple):
+    """Seconds of a question at L = 1, which fills a line's table, and of that table by a division for each column."""
+
+    question: float
+    divided: float
+
+
 class Copy(typing.NamedTuple):
     """ns a pixel of a memcpy of the page, and of one through pages in turn."""
 
@@ -70,6 +77,7 @@ class Measured:
         self.facts, self.versions, self.checked = {}, {}, []
         self.copies, self.times = {}, collections.defaultdict(dict)
         self.document001, self.readings, self.trays, self.questions = collections.defaultdict(list), {}, {}, {}
+        self.drawings = {}
         with open(path, encoding="utf-8") as lines:
             for line in lines:
                 self._take(*line.rstrip("\n").split("\t"))
@@ -92,6 +100,8 @@ class Measured:
             self._take_tray(*words)
         elif kind == "why":
             self._take_question(*words)
+        elif kind == "drawing":
+            self.drawings[f"slope {slope_text(words[:2])}"] = Drawing(*map(float, words[2:]))
         else:
             self.facts[kind] = words[0]
 

@@ -122,10 +122,19 @@ def questions(measured):
     yield ""
 
 
+def drawings(measured):
+    yield "A line's table of 8192 columns, by the running error term: a question at L = 1, which is little else,"
+    yield "beside that table by a division for each column, in C"
+    for slope, (question, divided) in measured.drawings.items():
+        times = f"question {1e6 * question:.2f} us, divided {1e6 * divided:.2f} us"
+        yield f"{slope}: {times}; question / divided {question / divided:.2f}"
+    yield ""
+
+
 def main(measured_path, table_path, plot_path):
     measured = Measured(measured_path)
     lines = [*head(measured), *table(measured), *document001(measured), *readings(measured), *trays(measured)]
-    lines += questions(measured)
+    lines += [*questions(measured), *drawings(measured)]
     lines += verdicts.lines(measured)
     text = "\n".join(lines) + "\n"
     with open(table_path, "w", encoding="utf-8") as out:

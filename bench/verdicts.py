@@ -15,6 +15,7 @@ def lines(measured):
     yield from _cheap_reading(measured)
     yield from _cheap_lists(measured)
     yield from _prompt_answers(measured)
+    yield from _no_slower_than_dividing(measured)
 
 
 def _verdict(what, figures, limit, least=False, digits=2):
@@ -98,3 +99,9 @@ def _prompt_answers(measured):
     yield "(g) why a pixel came out so"
     yield from _verdict("an answer of an A4 page at L = 51, in milliseconds at most 1", usual, 1, digits=3)
     yield from _verdict("one of 8192 by 1 pixels at L = 8192, in seconds at most 1", longest, 1, digits=3)
+
+
+def _no_slower_than_dividing(measured):
+    figures = {slope: drawing.question / drawing.divided for slope, drawing in measured.drawings.items()}
+    yield "(h) a line drawn by the running error term"
+    yield from _verdict("a question that fills a table of 8192 columns, at most that table by divisions", figures, 1)
