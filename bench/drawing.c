@@ -3,7 +3,6 @@
 #include <stdio.h>
 
 #include "sotrugla.h"
-#include "timing.h"
 
 enum { LONGEST = 8192, TIMES = 2000 };
 
@@ -20,8 +19,10 @@ static double question(struct slope slope)
         double began = cpu_seconds();
         struct sotrugla_reason reason = sotrugla_why_job(&job, 0, 0);
         best = least(best, cpu_seconds() - began);
-        if (reason.refusal)
+        if (reason.refusal) {
+            fprintf(stderr, "no reason: %s\n", sotrugla_sentence(reason.refusal));
             exit(1);
+        }
     }
     return best;
 }
