@@ -9,7 +9,6 @@
  *                call for all, the latter as a multiple of the former
  *   why          page, drawing, operation, dx, dy, L, boxes, pixels asked about, seconds of the longest answer, of the
  *                operation on the page
- *   phases       page, drawing, dx, dy, L, phases, seconds of an opening in all of them, in one
  *   drawing      dx, dy, seconds of a question at L = 1, of the table that it fills by a division for each column
  * bench/report.py makes the table of it. With --quick a small part is measured. */
 #include <malloc.h>
@@ -20,7 +19,6 @@
 #include "document001.h"
 #include "drawing.h"
 #include "memory.h"
-#include "phases.h"
 #include "plan.h"
 #include "reading.h"
 #include "timing.h"
@@ -169,7 +167,6 @@ int main(int count, char **words)
     measure_tray(quick ? &QUICK_PLAN : &A4_PLAN);
     measure_why(quick ? &QUICK_PLAN : &A4_PLAN);
     measure_drawing(quick ? &QUICK_PLAN : &A4_PLAN);
-    measure_phases(quick ? &QUICK_PLAN : &A4_PLAN);
     measure(quick ? &QUICK_PLAN : &A4_PLAN);
     if (!quick)
         measure(&LARGEST_PLAN);

@@ -60,19 +60,6 @@ class Drawing(typing.NamedTuple):
     divided: float
 
 
-class Phases(typing.NamedTuple):
-    """How many phases a slope has, and seconds of an opening in all of them and of one in a single phase."""
-
-    count: int
-    all: float
-    one: float
-
-    @property
-    def ratio(self):
-        """What a phase costs where all are taken, as a multiple of an opening in it alone."""
-        return self.all / self.count / self.one
-
-
 class Copy(typing.NamedTuple):
     """ns a pixel of a memcpy of the page, and of one through pages in turn."""
 
@@ -90,7 +77,7 @@ class Measured:
         self.facts, self.versions, self.checked = {}, {}, []
         self.copies, self.times = {}, collections.defaultdict(dict)
         self.document001, self.readings, self.trays, self.questions = collections.defaultdict(list), {}, {}, {}
-        self.drawings, self.phases = {}, {}
+        self.drawings = {}
         with open(path, encoding="utf-8") as lines:
             for line in lines:
                 self._take(*line.rstrip("\n").split("\t"))
@@ -113,8 +100,6 @@ class Measured:
             self._take_tray(*words)
         elif kind == "why":
             self._take_question(*words)
-        elif kind == "phases":
-            self._take_phases(*words)
         elif kind == "drawing":
             self.drawings[f"slope {slope_text(words[:2])}"] = Drawing(*map(float, words[2:]))
         else:
@@ -137,10 +122,6 @@ class Measured:
         case = Case(page, drawing, operation, (int(dx), int(dy)), int(length))
         with_boxes = f"{case}, {boxes} boxes" if int(boxes) else str(case)
         self.questions[with_boxes] = Question(int(boxes), int(asked), *map(float, seconds))
-
-    def _take_phases(self, page, drawing, dx, dy, length, count, *seconds):
-        case = Case(page, drawing, "opening", (int(dx), int(dy)), int(length))
-        self.phases[case] = Phases(int(count), *map(float, seconds))
 
     def copy_of(self, case):
         return self.copies[case.page, case.drawing]

@@ -62,11 +62,9 @@ static void take(const struct page *page)
 {
     uint8_t *old_output = output, *old_scratch = scratch;
     size_t old_output_length = output_length, old_scratch_length = scratch_length;
-    uint8_t ticket[TICKET_MOST];
-    size_t ticket_length = write_ticket(ticket, (struct order){OPEN, {1, 0}, 1, 0}); /* no order here needs more */
     held = *page;
     output_length = page_bytes(page);
-    scratch_length = sotrugla_scratch_needed(ticket, ticket_length, page->width, page->height);
+    scratch_length = sotrugla_scratch_needed(page->width, page->height);
     output = room(output_length), scratch = room(scratch_length);
     if (old_output) /* left last, so that the new ones stand elsewhere in the memory */
         leave(old_output, old_output_length), leave(old_scratch, old_scratch_length);

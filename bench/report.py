@@ -131,19 +131,10 @@ def drawings(measured):
     yield ""
 
 
-def phases(measured):
-    yield "An opening in all phases, beside an opening in one: the same page, on the same trays, within a short while"
-    yield "Before it was timed the page in all phases was found to be that of the single ones, the lightest pixels taken."
-    for case, (count, every, one) in measured.phases.items():
-        times = f"all {count} phases {1e3 * every:.2f} ms, {1e3 * every / count:.2f} ms each; one {1e3 * one:.2f} ms"
-        yield f"{case}: {times}; each / one {measured.phases[case].ratio:.2f}"
-    yield ""
-
-
 def main(measured_path, table_path, plot_path):
     measured = Measured(measured_path)
     lines = [*head(measured), *table(measured), *document001(measured), *readings(measured), *trays(measured)]
-    lines += [*questions(measured), *drawings(measured), *phases(measured)]
+    lines += [*questions(measured), *drawings(measured)]
     lines += verdicts.lines(measured)
     text = "\n".join(lines) + "\n"
     with open(table_path, "w", encoding="utf-8") as out:

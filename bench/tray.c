@@ -35,19 +35,10 @@ struct trays {
     size_t scratch_length;
 };
 
-/* The ticket that all jobs share: its bytes, and how many there are. */
-static uint8_t shared[SOTRUGLA_TICKET_BYTES];
-
-static size_t put_shared(void)
-{
-    struct sotrugla_ticket ticket = sotrugla_centred(SOTRUGLA_OPEN, SOTRUGLA_CONNECTED, SLOPE.dx, SLOPE.dy, LENGTH);
-    return sotrugla_put_ticket(&ticket, shared, sizeof shared);
-}
-
 static struct trays lay_trays(const struct kind *kind)
 {
     size_t width = ACROSS * kind->width, height = DOWN * kind->height;
-    size_t scratch_length = sotrugla_scratch_needed(shared, put_shared(), kind->width, kind->height);
+    size_t scratch_length = sotrugla_scratch_needed(kind->width, kind->height);
     struct trays trays = {blank_page(width, height), blank_page(width, height), room(scratch_length), scratch_length};
     draw_noise(&trays.source);
     return trays;
@@ -66,11 +57,15 @@ static struct sotrugla_listed_job placed_job(const struct kind *kind, size_t str
         .source_offset = corner, .source_stride = stride, .output_offset = corner, .output_stride = stride};
 }
 
-/* Of the refused ones every other has a ticket that ends too soon, the rest a page that passes the end of its tray. */
+/* All jobs share a ticket. Of the refused ones every other has a ticket that ends too soon, the rest a page that passes
+ * the end of its tray. */
 static struct sotrugla_list list_jobs(const struct kind *kind, const struct trays *trays)
 {
     static struct sotrugla_listed_job jobs[JOBS];
-    struct sotrugla_list list = {.count = JOBS, .jobs = jobs, .tickets = shared, .tickets_length = put_shared(),
+    static uint8_t bytes[SOTRUGLA_TICKET_BYTES];
+    struct sotrugla_ticket ticket = sotrugla_centred(SOTRUGLA_OPEN, SOTRUGLA_CONNECTED, SLOPE.dx, SLOPE.dy, LENGTH);
+    struct sotrugla_list list = {.count = JOBS, .jobs = jobs,
+        .tickets = bytes, .tickets_length = sotrugla_put_ticket(&ticket, bytes, sizeof bytes),
         .source = trays->source.pixels, .source_length = page_bytes(&trays->source),
         .output = trays->output.pixels, .output_length = page_bytes(&trays->output),
         .scratch = trays->scratch, .scratch_length = trays->scratch_length};

@@ -16,7 +16,6 @@ def lines(measured):
     yield from _cheap_lists(measured)
     yield from _prompt_answers(measured)
     yield from _no_slower_than_dividing(measured)
-    yield from _cheap_phases(measured)
 
 
 def _verdict(what, figures, limit, least=False, digits=2):
@@ -106,10 +105,3 @@ def _no_slower_than_dividing(measured):
     figures = {slope: drawing.question / drawing.divided for slope, drawing in measured.drawings.items()}
     yield "(h) a line drawn by the running error term"
     yield from _verdict("a question that fills a table of 8192 columns, at most that table by divisions", figures, 1)
-
-
-def _cheap_phases(measured):
-    figures = {case: phases.ratio for case, phases in measured.phases.items()}
-    yield "(i) all phases at once"
-    what = "an opening in all phases, for each phase at most 1.1 times an opening in one"
-    yield from _verdict(what, figures, 1.1)

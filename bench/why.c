@@ -69,10 +69,9 @@ static void measure_question(const struct question *question, struct page *page)
     static uint8_t bytes[SOTRUGLA_TICKET_BYTES];
     struct sotrugla_ticket ticket = ordered(question, page);
     struct page output = blank_page(page->width, page->height);
-    size_t ticket_length = sotrugla_put_ticket(&ticket, bytes, sizeof bytes);
-    size_t scratch_length = sotrugla_scratch_needed(bytes, ticket_length, page->width, page->height);
+    size_t scratch_length = sotrugla_scratch_needed(page->width, page->height);
     uint8_t *scratch = room(scratch_length);
-    struct sotrugla_job job = {.ticket = bytes, .ticket_length = ticket_length,
+    struct sotrugla_job job = {.ticket = bytes, .ticket_length = sotrugla_put_ticket(&ticket, bytes, sizeof bytes),
         .width = page->width, .height = page->height,
         .source = page->pixels, .source_length = page_bytes(page), .source_stride = page->width,
         .output = output.pixels, .output_length = page_bytes(page), .output_stride = page->width,

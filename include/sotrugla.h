@@ -26,8 +26,8 @@
 #include <stdio.h>
 #include <string.h>
 
-#define SOTRUGLA_VERSION "0.7.0"
-#define SOTRUGLA_VERSION_NUMBER 7000 /* 1000000 * major + 1000 * minor + patch */
+#define SOTRUGLA_VERSION "0.6.0"
+#define SOTRUGLA_VERSION_NUMBER 6000 /* 1000000 * major + 1000 * minor + patch */
 
 #if SIZE_MAX != UINT64_MAX
 #error "Sotrugla is for machines whose sizes are 64-bit numbers"
@@ -41,8 +41,8 @@ extern "C" {
 uint64_t sotrugla_version(void);
 
 /* An answer. refusal is 0 for a finished page, else the refusal's number, and place says where: the
- * ticket's byte where the field at fault starts (refusals 1 to 9 and 20), the number of the box from 0 (14),
- * the file's first byte at fault, or its length where it ends too soon (15 to 17), the numbers needed (100),
+ * ticket's byte where the field at fault starts (refusals 1 to 9), the number of the box from 0 (14), the
+ * file's first byte at fault, or its length where it ends too soon (15 to 17), the numbers needed (100),
  * else 0. work is the count of comparisons; a refusal has 0. The answer to a whole list is 0, 0, 0 where its
  * jobs have answers of their own, whatever these are. */
 struct sotrugla_outcome {
@@ -50,9 +50,8 @@ struct sotrugla_outcome {
 };
 
 /* 1 to 25 are kept for the law's refusals, of which later versions may know more. 18 is that of a whole list:
- * no job of it has been looked at. 19 is that of a question about a pixel, which sotrugla_why is. 20 is a
- * ticket's, like 1 to 9. 100 is the answer to every call that is handed a buffer of numbers too short; nothing
- * is written then. */
+ * no job of it has been looked at. 19 is that of a question about a pixel, which sotrugla_why is. 100 is the
+ * answer to every call that is handed a buffer of numbers too short; nothing is written then. */
 enum {
     SOTRUGLA_TICKET_ENDS = 1,
     SOTRUGLA_WRONG_TAG = 2,
@@ -73,7 +72,6 @@ enum {
     SOTRUGLA_BAD_PIXEL = 17,
     SOTRUGLA_TOO_MANY_JOBS = 18,
     SOTRUGLA_PIXEL_OFF_PAGE = 19,
-    SOTRUGLA_PERIODIC_LINE = 20,
     SOTRUGLA_NUMBERS_TOO_FEW = 100
 };
 
@@ -81,12 +79,10 @@ enum {
  *   ticket    read only; the job ticket's bytes
  *   source    read only, and of it only the page's bytes
  *   output    written: the page's bytes at a finished page, nothing else; at a refusal nothing
- *   scratch   its first bytes, as many as sotrugla_scratch_needed answers for the ticket and the sides, are
- *             written, and hold 0 after a finished page; at a refusal nothing is written
+ *   scratch   its first sotrugla_scratch_needed(width, height) bytes are written, and hold 0 after a
+ *             finished page; at a refusal nothing is written
  * What output and scratch held before changes nothing in the answer or the page.
- * Cost: at most three comparisons a pixel for erosion and dilation, six for opening and closing. In all phases
- * it is that of an opening or a closing for each of them, and a comparison a pixel more for each but the first:
- * so the work may be above 2^32. */
+ * Cost: at most three comparisons a pixel for erosion and dilation, six for opening and closing. */
 struct sotrugla_outcome sotrugla_run(const uint8_t *ticket, size_t ticket_length, size_t width,
                                      size_t height, size_t source_offset, size_t source_stride,
                                      size_t output_offset, size_t output_stride,
@@ -94,28 +90,14 @@ struct sotrugla_outcome sotrugla_run(const uint8_t *ticket, size_t ticket_length
                                      size_t output_length, uint8_t *scratch,
                                      size_t scratch_length);
 
-/* The bytes of scratch that a page of these sides needs for what the ticket orders: 2 * width * height + 3 * the
- * longer side, and width * height more where it orders all phases. 0 where a side is not 1 to 8192 or the
- * ticket is refused: such a job is refused whatever its scratch.
- *   ticket    read only; the job ticket's bytes */
-size_t sotrugla_scratch_needed(const uint8_t *ticket, size_t ticket_length, size_t width,
-                               size_t height);
+/* The bytes of scratch that a page of these sides needs: 2 * width * height + 3 * the longer side.
+ * 0 where a side is not 1 to 8192: such a page is refused (10). */
+size_t sotrugla_scratch_needed(size_t width, size_t height);
 
 /* The operations and the lines that a ticket may name. Rising and falling lines are mirror images: for a
  * page and boxes flipped top to bottom with dy negated (left to right with dx negated where the vector is
- * steep), the result is the flipped result, and the work is the same.
- *
- * An opening in all phases is, pixel by pixel, the lightest of the openings in the phases 0 to k - 1, and a closing
- * the darkest of the closings: k is the larger of the sizes of dx and dy. Such a ticket has phase 0 (else 9) and a
- * connected line (else 20). */
-enum {
-    SOTRUGLA_ERODE = 1,
-    SOTRUGLA_DILATE = 2,
-    SOTRUGLA_OPEN = 3,
-    SOTRUGLA_CLOSE = 4,
-    SOTRUGLA_OPEN_ALL_PHASES = 5,
-    SOTRUGLA_CLOSE_ALL_PHASES = 6
-};
+ * steep), the result is the flipped result, and the work is the same. */
+enum { SOTRUGLA_ERODE = 1, SOTRUGLA_DILATE = 2, SOTRUGLA_OPEN = 3, SOTRUGLA_CLOSE = 4 };
 enum { SOTRUGLA_CONNECTED = 1, SOTRUGLA_PERIODIC = 2 };
 
 /* The most boxes that a ticket may hide, and the bytes of the longest ticket: its first six fields always
@@ -140,7 +122,7 @@ struct sotrugla_ticket {
 enum { SOTRUGLA_NUMBERS = sizeof(struct sotrugla_ticket) / sizeof(int64_t) };
 
 /* Reads a ticket alone into the first SOTRUGLA_NUMBERS numbers of a buffer, in the order of struct
- * sotrugla_ticket; later numbers keep their values. The refusal is 0, 1 to 9 or 20; at a refusal all the
+ * sotrugla_ticket; later numbers keep their values. The refusal is 0 or 1 to 9; at a refusal all the
  * numbers are 0. The work is 0. A buffer of fewer numbers is answered 100, its place the numbers needed,
  * and is not written, whatever the ticket. Boxes are not held to a page: that is for the job to do. */
 struct sotrugla_outcome sotrugla_read_ticket(const uint8_t *ticket, size_t ticket_length,
@@ -288,9 +270,9 @@ struct sotrugla_written {
  *             SOTRUGLA_PGM_HEADER + width * height bytes are always enough
  *   scratch   as in sotrugla_run
  * What output and scratch held before changes nothing in the answer or the written file.
- * Refusals, in this order: the ticket's 1 to 9 and 20; the file's 15, 16, 17 and 10; 12 where the output is
- * shorter than the file to be written; 13; 14. A caller that makes room for the sides that sotrugla_read_pgm
- * answers, 0 for a refused file, and as much scratch as the ticket needs for them, never meets 12 or 13.
+ * Refusals, in this order: the ticket's 1 to 9; the file's 15, 16, 17 and 10; 12 where the output is shorter
+ * than the file to be written; 13; 14. A caller that makes room for the sides that sotrugla_read_pgm
+ * answers, 0 for a refused file, never meets 12 or 13.
  * Cost: a reading of the file, and then as sotrugla_run. */
 struct sotrugla_written sotrugla_run_pgm(const uint8_t *ticket, size_t ticket_length,
                                          const uint8_t *file, size_t file_length, uint8_t *output,
@@ -345,8 +327,7 @@ struct sotrugla_listed_job {
  *   source    read only, and of it only the bytes of the jobs' pages
  *   output    written: the bytes of the finished pages, nothing else. Places may overlap: there the bytes of
  *             the last finished job stand
- *   scratch   as in sotrugla_run, for each job by itself: the largest sotrugla_scratch_needed of a job's ticket
- *             and sides is enough for all
+ *   scratch   as in sotrugla_run, for each job by itself: the largest sotrugla_scratch_needed is enough for all
  *   answers   its first SOTRUGLA_LIST_ANSWERS numbers are written: those of struct sotrugla_outcome for each
  *             job in list order, and 0 past the list; later numbers keep their values
  * What output, scratch and answers held before changes nothing in the answers or the pages.
@@ -424,19 +405,17 @@ struct sotrugla_reason {
  *   SOTRUGLA_TWO_PASSES   opening and closing: through is the first unhidden step of the pixel's window in the
  *                         second pass that gives the result, and from the first unhidden step of the window of
  *                         through in the first pass that gave it
- * Steps are ordered along the vector. phase is the ticket's; where that orders all phases, it is the lowest that gives
- * the result, and the steps are those of the pixel's line in it. The result is the source's grey at from. */
+ * Steps are ordered along the vector. phase is the ticket's. The result is the source's grey at from. */
 enum { SOTRUGLA_HIDDEN_BOX = 1, SOTRUGLA_ONE_PASS = 3, SOTRUGLA_TWO_PASSES = 4 };
 
 /* Names the reason why a pixel of a job's page comes out as it does, without running the job.
  *   ticket    read only; the job ticket's bytes
- *   source    read only: of it the unhidden pixels of one line, or in all phases of one for each, fewer than the
- *             segment's length of steps away
+ *   source    read only: of it the unhidden pixels of one line fewer than the segment's length of steps away
  * Nothing is written: of output and scratch the job is asked for their lengths alone.
  * Refusals: those of sotrugla_run for such a job, then 19 where the column is not below the width or the row not
  * below the height, with place 0.
  * Cost: a reading of the ticket, and then a time that grows with the segment's length for erosion and dilation,
- * with its square for opening and closing, and in all phases as much for each of them. */
+ * with its square for opening and closing. */
 struct sotrugla_reason sotrugla_why(const uint8_t *ticket, size_t ticket_length, size_t width,
                                     size_t height, size_t source_offset, size_t source_stride,
                                     size_t output_offset, size_t output_stride,
@@ -457,7 +436,7 @@ static inline struct sotrugla_reason sotrugla_why_job(const struct sotrugla_job 
 
 /* The same for a pixel of a file's page, which sotrugla_run_pgm filters. The result is the file's grey at from; a
  * hidden pixel comes out as the file's maximum.
- * Refusals, in this order: the ticket's 1 to 9 and 20; the file's 15, 16, 17 and 10; 14; 19.
+ * Refusals, in this order: the ticket's 1 to 9; the file's 15, 16, 17 and 10; 14; 19.
  * Cost: a reading of the file, and then as sotrugla_why. */
 static inline struct sotrugla_reason sotrugla_why_pgm(const uint8_t *ticket, size_t ticket_length,
                                                       const uint8_t *file, size_t file_length,
@@ -468,8 +447,7 @@ static inline struct sotrugla_reason sotrugla_why_pgm(const uint8_t *ticket, siz
     struct sotrugla_reason reason =
         sotrugla_why(ticket, ticket_length, shown.width, shown.height, shown.start, shown.width, 0,
                      shown.width, file, file_length, shown.width * shown.height,
-                     sotrugla_scratch_needed(ticket, ticket_length, shown.width, shown.height),
-                     column, row);
+                     sotrugla_scratch_needed(shown.width, shown.height), column, row);
     if (reason.refusal == SOTRUGLA_BAD_SIDES)
         reason.refusal = shown.refusal, reason.place = shown.place;
     return reason;
@@ -499,7 +477,6 @@ static inline const char *sotrugla_sentence(uint64_t refusal)
         "a pixel of the file is above its maximum, or the file has too few pixels",
         "the list has more than 256 jobs",
         "the pixel is off the page",
-        "a periodic line has no phases to take together: all phases need a connected line",
     };
     if (refusal == SOTRUGLA_NUMBERS_TOO_FEW)
         return "the buffer of numbers is too short";
@@ -507,8 +484,8 @@ static inline const char *sotrugla_sentence(uint64_t refusal)
 }
 
 /* The four functions below are sotrugla_sentence for an answer to what they are handed, but say which rule
- * of a vector (6), or which number of a placement (10), is at fault, and of a phase (9) whether all are ordered.
- * Each sentence stands whole on one line, so that a search finds it. */
+ * of a vector (6), or which number of a placement (10), is at fault. Each sentence stands whole on one line,
+ * so that a search finds it. */
 
 /* A component of the vector: two bytes, the higher first, in two's complement. */
 static inline int sotrugla_component_(const uint8_t *bytes)
@@ -529,22 +506,14 @@ static inline const char *sotrugla_vector_sentence_(int dx, int dy)
     return "dx and dy of a connected line have a common divisor above 1";
 }
 
-/* Whether a ticket, which the proved reader took as far as its operation, orders all phases. */
-static inline int sotrugla_orders_all_phases_(const uint8_t *ticket)
-{
-    return ticket[3] == SOTRUGLA_OPEN_ALL_PHASES || ticket[3] == SOTRUGLA_CLOSE_ALL_PHASES;
-}
-
-/* For sotrugla_read_ticket and sotrugla_read. A ticket that is refused for its vector, or for its phase behind it,
- * has at least the 15 bytes through its vector's end. */
+/* For sotrugla_read_ticket and sotrugla_read. A ticket that is refused for its vector has at least the 15
+ * bytes through its vector's end. */
 static inline const char *sotrugla_ticket_sentence(uint64_t refusal, const uint8_t *ticket,
                                                    size_t ticket_length)
 {
     if (refusal == SOTRUGLA_BAD_VECTOR && ticket_length >= 15)
         return sotrugla_vector_sentence_(sotrugla_component_(ticket + 11),
                                          sotrugla_component_(ticket + 13));
-    if (refusal == SOTRUGLA_BAD_PHASE && ticket_length >= 15 && sotrugla_orders_all_phases_(ticket))
-        return "the phase is not 0, as it must be where all phases are ordered";
     return sotrugla_sentence(refusal);
 }
 
@@ -598,13 +567,11 @@ static inline int sotrugla_put_hidden_(char *text, size_t length, size_t column,
 }
 
 /* The sentence of any other pixel; grey is what it comes out as, which is the source's at from. The way is told
- * unless it is from itself, and the phase where the ticket orders all of them. */
+ * unless it is from itself. */
 static inline int sotrugla_put_decided_(char *text, size_t length, size_t column, size_t row,
-                                        const struct sotrugla_reason *reason, int grey,
-                                        const uint8_t *ticket)
+                                        const struct sotrugla_reason *reason, int grey)
 {
     char from[SOTRUGLA_SENTENCE_BYTES] = "it", through[SOTRUGLA_SENTENCE_BYTES] = "";
-    char phase[SOTRUGLA_SENTENCE_BYTES] = "";
     int itself = reason->from_column == column && reason->from_row == row;
     int direct = reason->through_column == reason->from_column &&
                  reason->through_row == reason->from_row;
@@ -615,11 +582,9 @@ static inline int sotrugla_put_decided_(char *text, size_t length, size_t column
         snprintf(through, sizeof through, ", by way of column %llu, row %llu",
                  (unsigned long long)reason->through_column,
                  (unsigned long long)reason->through_row);
-    if (sotrugla_orders_all_phases_(ticket))
-        snprintf(phase, sizeof phase, ", in phase %d", (int)reason->phase);
-    return snprintf(text, length, "column %llu, row %llu is %d because %s is %d%s%s%s",
+    return snprintf(text, length, "column %llu, row %llu is %d because %s is %d%s%s",
                     (unsigned long long)column, (unsigned long long)row, grey, from, grey,
-                    itself ? " itself" : "", through, phase);
+                    itself ? " itself" : "", through);
 }
 
 /* Writes what sotrugla_why_job answered for this job, column and row as a sentence for an operator; that of a
@@ -639,8 +604,7 @@ static inline int sotrugla_job_reason(const struct sotrugla_reason *reason,
     return sotrugla_put_decided_(text, length, column, row, reason,
                                  job->source[job->source_offset +
                                              reason->from_row * job->source_stride +
-                                             reason->from_column],
-                                 job->ticket);
+                                             reason->from_column]);
 }
 
 /* The same for sotrugla_why_pgm; the sentence of a refusal is sotrugla_file_sentence. */
@@ -657,7 +621,7 @@ static inline int sotrugla_file_reason(const struct sotrugla_reason *reason, con
         return sotrugla_put_hidden_(text, length, column, row, reason->box, ticket, ticket_length);
     return sotrugla_put_decided_(
         text, length, column, row, reason,
-        file[shown.start + reason->from_row * shown.width + reason->from_column], ticket);
+        file[shown.start + reason->from_row * shown.width + reason->from_column]);
 }
 
 #ifdef __cplusplus

@@ -7,7 +7,7 @@ use std::ops::Range;
 use crate::generate::{self, MadeFile, TicketList};
 use crate::job::{self, Job, Outcome};
 use crate::page_program::reply;
-use crate::refusal::{self, HEADER, PIXELS, SOURCE_DOES_NOT_FIT};
+use crate::refusal::{BOX_OFF_PAGE, PHASE, PIXELS, SOURCE_DOES_NOT_FIT, TICKET_ENDS};
 use crate::ticket_list::LONGEST_LIST;
 use crate::trial::{hex, Due, Trial};
 use crate::{file_job, file_list, flip, job_list, marks, number_list, ticket_list};
@@ -23,7 +23,7 @@ const JOBS_A_RUN: u64 = 50;
 pub fn pages(seed: u64, count: u64, program: &[&str]) -> io::Result<Trial> {
     let mut trial = Trial::new(seed, count, "inputs");
     trial.expect(&["done"]);
-    trial.expect_refusals(refusal::of_jobs());
+    trial.expect_refusals(BOX_OFF_PAGE);
     trial.expect(&["bad input", "too big"]);
     for index in 0..count {
         let input = generate::page_input(seed, index);
@@ -39,7 +39,7 @@ pub fn pages(seed: u64, count: u64, program: &[&str]) -> io::Result<Trial> {
 pub fn tickets(seed: u64, count: u64, program: &[&str]) -> io::Result<Trial> {
     let mut trial = Trial::new(seed, count, "tickets");
     trial.expect(&["ticket"]);
-    trial.expect_refusals(refusal::of_tickets());
+    trial.expect_refusals(PHASE);
     trial.expect(&["cut", "runs", "runs of 65536 bytes"]);
     // The first list has no ticket at all.
     let (mut first, mut list) = (0, TicketList::default());
@@ -101,44 +101,20 @@ fn runs(count: u64, a_run: u64) -> impl Iterator<Item = Range<u64>> {
     (0..count).step_by(a_run as usize).map(move |first| first..count.min(first + a_run))
 }
 
-/// How a job is made for one seed and index, and what is counted of it.
-struct Jobs {
-    make: fn(u64, u64) -> Job,
-    marks: fn(&Job, &Outcome) -> Vec<(String, bool)>,
-}
-
-impl Jobs {
-    /// The job program, many jobs a run; it prints a job's line as soon as the job is done, so that
-    /// a job that crashes or does not come back is told.
-    fn ask(&self, trial: &mut Trial, program: &[&str]) -> io::Result<()> {
-        for indices in runs(trial.inputs, JOBS_A_RUN) {
-            let mut batch = Batch::default();
-            for index in indices {
-                let job = (self.make)(trial.seed, index);
-                let outcome = job::run(&job);
-                trial.count_marks(&(self.marks)(&job, &outcome));
-                batch.push_job(index, &job, &outcome);
-            }
-            trial.ask(program, &batch.list, &batch.dues)?;
-        }
-        Ok(())
-    }
-}
-
-/// The job program over jobs of every kind.
+/// The job program, many jobs a run; it prints a job's line as soon as the job is done, so that a
+/// job that crashes or does not come back is told.
 pub fn jobs(seed: u64, count: u64, program: &[&str]) -> io::Result<Trial> {
     let mut trial = Trial::new(seed, count, "jobs");
-    Jobs { make: generate::job, marks: marks::of }.ask(&mut trial, program)?;
-    Ok(trial)
-}
-
-/// The job program once more, over jobs of all phases at once.
-pub fn phases(seed: u64, count: u64, program: &[&str]) -> io::Result<Trial> {
-    let mut trial = Trial::new(seed, count, "jobs of all phases");
-    // Every job has the same marks by name.
-    let job = generate::phases_job(seed, 0);
-    marks::of_phases(&job, &job::run(&job)).iter().for_each(|(mark, _)| trial.require(mark));
-    Jobs { make: generate::phases_job, marks: marks::of_phases }.ask(&mut trial, program)?;
+    for indices in runs(count, JOBS_A_RUN) {
+        let mut batch = Batch::default();
+        for index in indices {
+            let job = generate::job(seed, index);
+            let outcome = job::run(&job);
+            trial.count_marks(&marks::of(&job, &outcome));
+            batch.push_job(index, &job, &outcome);
+        }
+        trial.ask(program, &batch.list, &batch.dues)?;
+    }
     Ok(trial)
 }
 
@@ -181,8 +157,7 @@ pub fn files(seed: u64, count: u64, program: &[&str]) -> io::Result<Trial> {
     let mut trial = Trial::new(seed, count, "files");
     trial.require("done");
     // A page that is read out of a file always fits it.
-    let numbers = refusal::of_jobs().filter(|&number| number != SOURCE_DOES_NOT_FIT);
-    for number in numbers.chain(HEADER..=PIXELS) {
+    for number in (TICKET_ENDS..=PIXELS).filter(|&number| number != SOURCE_DOES_NOT_FIT) {
         trial.require(&format!("refused {number}"));
     }
     generate::file_kinds().iter().for_each(|(kind, _)| trial.require(kind));

@@ -70,7 +70,7 @@ fn finish(job: &FileJob, ticket: &Ticket, header: &Header, outcome: &mut Outcome
     let results = filter::filtered(sides, greys, ticket, header.maximum);
     let written = [pgm::head(header), results].concat();
     outcome.output[..written.len()].copy_from_slice(&written);
-    outcome.scratch[..scratch_needed(ticket, header.width, header.height) as usize].fill(0);
+    outcome.scratch[..scratch_needed(header.width, header.height) as usize].fill(0);
     let (work, length) = (work::of_job(sides, ticket), written.len() as u64);
     outcome.answer = Answer { work, length, ..Answer::default() };
 }

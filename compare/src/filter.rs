@@ -1,7 +1,7 @@
-//! Document 01, "The four filters", and the two of wish 6, pixel by pixel.
+//! Document 01, "The four filters", pixel by pixel.
 
 use crate::lines::{Lines, Pixel, Sides, Way};
-use crate::ticket::{HiddenBox, Ticket, CLOSE, CLOSE_ALL, DILATE, ERODE, OPEN, OPEN_ALL};
+use crate::ticket::{HiddenBox, Ticket, CLOSE, DILATE, ERODE, OPEN};
 
 /// A page between passes, row by row. A hidden pixel has no value at all, so that no pass can
 /// take the white it comes out with for a grey.
@@ -19,46 +19,23 @@ impl Page {
 
     /// The page that a pass makes of this one.
     pub fn after(&self, ticket: &Ticket, pass: Pass) -> Page {
-        let results = self.sides.pixels().into_iter().map(|at| self.result(ticket, &[pass], at));
+        let results = self.sides.pixels().into_iter().map(|at| self.result(ticket, pass, at));
         Page { sides: self.sides, greys: results.collect() }
-    }
-
-    /// The page that the ticket's operation makes of this one in each phase that it goes over, the
-    /// lowest first.
-    pub fn in_each_phase(&self, ticket: &Ticket) -> Vec<Page> {
-        let filtered = |ticket: Ticket| match *Pass::of(ticket.operation) {
-            [only] => self.after(&ticket, only),
-            [first, second] => self.after(&ticket, first).after(&ticket, second),
-            _ => panic!("an operation has one pass or two"),
-        };
-        ticket.in_each_phase().map(filtered).collect()
-    }
-
-    /// Two pages of the same sides and boxes, pixel by pixel joined into one.
-    fn joined(&self, other: &Page, operation: u8) -> Page {
-        let pairs = self.greys.iter().zip(&other.greys);
-        let joined = pairs.map(|(one, other)| Some(join(operation, (*one)?, (*other)?)));
-        Page { sides: self.sides, greys: joined.collect() }
     }
 
     pub fn grey(&self, at: Pixel) -> Option<u8> {
         self.greys[(at.row * self.sides.width + at.column) as usize]
     }
 
-    /// What these passes, one after the other, make of one pixel: the extreme, over the present
-    /// steps of its window in the last pass, of what the passes before make of them. Nothing if the
-    /// pixel is hidden.
-    pub fn result(&self, ticket: &Ticket, passes: &[Pass], pixel: Pixel) -> Option<u8> {
-        let Some((last, before)) = passes.split_last() else {
-            return self.grey(pixel);
-        };
-        let (lines, window) = (Lines::of(ticket), last.window(ticket));
-        let mut extreme = self.result(ticket, before, pixel)?;
+    /// The extreme over the present steps of one pixel's window; nothing if the pixel is hidden.
+    pub fn result(&self, ticket: &Ticket, pass: Pass, pixel: Pixel) -> Option<u8> {
+        let (lines, window) = (Lines::of(ticket), pass.window(ticket));
+        let mut extreme = self.grey(pixel)?;
         for (way, reach) in [(Way::Behind, window.behind), (Way::Ahead, window.ahead)] {
             // A step over a hidden pixel counts towards the reach, and its grey is skipped.
             let steps = lines.walk(self.sides, pixel, way).take(reach);
-            for grey in steps.filter_map(|at| self.result(ticket, before, at)) {
-                extreme = last.extreme(extreme, grey);
+            for grey in steps.filter_map(|at| self.grey(at)) {
+                extreme = pass.extreme(extreme, grey);
             }
         }
         Some(extreme)
@@ -96,9 +73,9 @@ impl Pass {
         match operation {
             ERODE => &[Pass::Erosion],
             DILATE => &[Pass::Dilation],
-            OPEN | OPEN_ALL => &[Pass::Erosion, Pass::Dilation],
-            CLOSE | CLOSE_ALL => &[Pass::Dilation, Pass::Erosion],
-            _ => panic!("a ticket that was read has one of the six operations"),
+            OPEN => &[Pass::Erosion, Pass::Dilation],
+            CLOSE => &[Pass::Dilation, Pass::Erosion],
+            _ => panic!("a ticket that was read has one of the four operations"),
         }
     }
 
@@ -119,20 +96,12 @@ impl Pass {
     }
 }
 
-/// "The pixelwise maximum of the openings over all k phases", and "the minimum of the closings".
-pub fn join(operation: u8, one: u8, other: u8) -> u8 {
-    match operation {
-        OPEN_ALL => one.max(other),
-        CLOSE_ALL => one.min(other),
-        _ => panic!("only two operations have phases to join"),
-    }
-}
-
 /// The finished page, row by row, for a ticket that was read and whose boxes lie on the page. A
 /// hidden pixel comes out as white, whatever number that is.
 pub fn filtered(sides: Sides, greys: &[u8], ticket: &Ticket, white: u8) -> Vec<u8> {
-    let phases = Page::unhidden(sides, greys, ticket.hidden_boxes()).in_each_phase(ticket);
-    let joined = phases.into_iter().reduce(|page, next| page.joined(&next, ticket.operation));
-    let page = joined.expect("there is a phase");
+    let mut page = Page::unhidden(sides, greys, ticket.hidden_boxes());
+    for &pass in Pass::of(ticket.operation) {
+        page = page.after(ticket, pass);
+    }
     page.greys.iter().map(|grey| grey.unwrap_or(white)).collect()
 }

@@ -13,7 +13,6 @@ mod flips;
 mod inputs;
 mod jobs;
 mod lists;
-mod phases;
 mod questions;
 mod tray_jobs;
 mod trays;
@@ -80,11 +79,6 @@ pub fn number_input(seed: u64, index: u64) -> Vec<u8> {
 /// A whole job at a random placement, with random old contents.
 pub fn job(seed: u64, index: u64) -> Job {
     jobs::job(&mut Random::new(seed, index))
-}
-
-/// A job of all phases at once, mostly one that finishes.
-pub fn phases_job(seed: u64, index: u64) -> Job {
-    phases::job(&mut Random::new(seed, index))
 }
 
 /// A job that finishes, and its flipped job, which lies elsewhere in trays of its own.

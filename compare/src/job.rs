@@ -114,7 +114,7 @@ pub fn judge_scratch_and_boxes(
     height: u64,
     scratch_length: u64,
 ) -> Result<(), Refusal> {
-    let long_enough = u128::from(scratch_length) >= scratch_needed(ticket, width, height);
+    let long_enough = u128::from(scratch_length) >= scratch_needed(width, height);
     unless(long_enough, refusal::SCRATCH_TOO_SHORT, 0)?;
     for (place, hidden_box) in (0..).zip(ticket.hidden_boxes()) {
         unless(on_page(hidden_box, width, height), refusal::BOX_OFF_PAGE, place)?;
@@ -136,6 +136,6 @@ fn finish(job: &Job, ticket: &Ticket, outcome: &mut Outcome) {
     for (pixel, result) in sides.pixels().into_iter().zip(results) {
         outcome.output[output.byte(pixel)] = result;
     }
-    outcome.scratch[..scratch_needed(ticket, job.width, job.height) as usize].fill(0);
+    outcome.scratch[..scratch_needed(job.width, job.height) as usize].fill(0);
     outcome.answer.work = work::of_job(sides, ticket);
 }

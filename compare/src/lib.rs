@@ -8,7 +8,7 @@
 //! - `ticket`: ticket bytes to fields or a refusal
 //! - `placement`: limits, fitting, the byte of a pixel, the scratch a page needs
 //! - `lines`: the pixel one step on, a pixel's number on its line, every line of a page
-//! - `filter`: erosion, dilation, opening and closing with absent pixels, in one phase or in all
+//! - `filter`: erosion, dilation, opening and closing with absent pixels
 //! - `work`: the comparisons of a job, counted block by block
 //! - `flip`: the flipped job of wish 2, and what was printed for both, side by side
 //! - `job`: a whole job, its answer and the later contents of output tray and scratch

@@ -75,12 +75,10 @@ impl Lines {
         }
     }
 
-    /// The difference of the shifts D(c+i) - D(i) at two columns, in which D(i) falls out; at two
-    /// rows, with dx and dy exchanged, when steep.
-    fn moved(&self, from: i64, to: i64) -> i64 {
+    /// The shift D(c+i) - D(i) at column c; at row c, with dx and dy exchanged, when steep.
+    fn shift(&self, c: i64) -> i64 {
         let (major, minor) = self.major_and_minor();
-        let d = |c| nearest_row(c + self.phase, major, minor);
-        d(to) - d(from)
+        nearest_row(c + self.phase, major, minor) - nearest_row(self.phase, major, minor)
     }
 
     /// The pixel one step along the way, on the page or off it.
@@ -90,9 +88,11 @@ impl Lines {
         if self.kind == PERIODIC {
             Pixel { column: column + one * self.dx, row: row + one * self.dy }
         } else if self.shallow() {
-            Pixel { column: column + one, row: row + self.moved(column, column + one) }
+            let moved = self.shift(column + one) - self.shift(column);
+            Pixel { column: column + one, row: row + moved }
         } else {
-            Pixel { column: column + self.moved(row, row + one), row: row + one }
+            let moved = self.shift(row + one) - self.shift(row);
+            Pixel { column: column + moved, row: row + one }
         }
     }
 

@@ -19,7 +19,6 @@ const USAGE: &str = "usage:
   compare question-list                   read a question program's input, print what it must print
   compare make SEED INDEX                 write one generated input of a page program
   compare make-jobs SEED FIRST COUNT      write generated jobs, an input of a job program
-  compare make-phases SEED FIRST COUNT    write other such jobs, of all phases at once
   compare make-flips SEED FIRST COUNT     write other such jobs, each followed by its flipped job
   compare make-files SEED FIRST COUNT     write generated jobs on files, an input of a file program
   compare make-lists SEED FIRST COUNT     write generated lists of jobs, an input of a tray program
@@ -29,8 +28,6 @@ PROGRAM may be several words, the program and its arguments:
   compare tickets SEED COUNT PROGRAM..    run a ticket program over generated tickets and compare
   compare numbers SEED COUNT PROGRAM..    run a number program over generated samples and compare
   compare jobs SEED COUNT PROGRAM..       run a job program over generated jobs and compare
-  compare phases SEED COUNT PROGRAM..     run a job program over generated jobs of all phases at
-                                          once and compare
   compare flips SEED COUNT PROGRAM..      run a job program over generated jobs and their flipped
                                           jobs, compare, and hold the two to one another
   compare files SEED COUNT PROGRAM..      run a file program over generated files and compare
@@ -96,7 +93,6 @@ type Entry = fn(u64, u64) -> Vec<u8>;
 fn entry(word: &str) -> Option<Entry> {
     match word {
         "make-jobs" => Some(|seed, index| job_list::entry(&generate::job(seed, index))),
-        "make-phases" => Some(|seed, index| job_list::entry(&generate::phases_job(seed, index))),
         "make-flips" => Some(|seed, index| {
             generate::flip_pair(seed, index).map(|job| job_list::entry(&job)).concat()
         }),
@@ -121,7 +117,6 @@ fn driver(word: &str) -> Option<Driver> {
         "tickets" => Some(drivers::tickets),
         "numbers" => Some(drivers::numbers),
         "jobs" => Some(drivers::jobs),
-        "phases" => Some(drivers::phases),
         "flips" => Some(drivers::flips),
         "files" => Some(drivers::files),
         "lists" => Some(drivers::lists),

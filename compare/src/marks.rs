@@ -1,48 +1,28 @@
-//! What a summary counts of a job: its answer, its near misses, its ticket and its placing; of a job
-//! of all phases at once; and of a job that is flipped.
-
-mod phases;
+//! What a summary counts of a job: its answer, its near misses, its ticket and its placing; and of
+//! a job that is flipped.
 
 use crate::flip::Flip;
 use crate::job::{Job, Lengths, Outcome};
 use crate::lines::{Lines, Sides};
 use crate::placement::{scratch_needed, Placement, LONGEST_SIDE, LONGEST_STRIDE};
-use crate::refusal::{self, BEYOND_LIMITS, NONE, OUTPUT_DOES_NOT_FIT};
-use crate::refusal::{PERIODIC_LINE, PHASE, SCRATCH_TOO_SHORT, SOURCE_DOES_NOT_FIT};
+use crate::refusal::{BEYOND_LIMITS, BOX_OFF_PAGE, NONE, OUTPUT_DOES_NOT_FIT};
+use crate::refusal::{SCRATCH_TOO_SHORT, SOURCE_DOES_NOT_FIT, TICKET_ENDS};
 use crate::ticket::{self, Ticket, BOX_PLACES, CONNECTED, PERIODIC};
-
-type Mark = (&'static str, bool);
 
 /// Each mark by its name and whether this job shows it.
 pub fn of(job: &Job, outcome: &Outcome) -> Vec<(String, bool)> {
     let refusal = outcome.answer.refusal;
     let done = refusal == NONE;
     let mut marks = vec![("done".to_string(), done)];
-    marks.extend(refusal::of_jobs().map(|n| (format!("refused {n}"), refusal == n)));
+    marks.extend((TICKET_ENDS..=BOX_OFF_PAGE).map(|n| (format!("refused {n}"), refusal == n)));
+    let near_misses = refused_marks(job.pages(), job.lengths(), refusal);
+    marks.extend(near_misses.map(|(name, holds)| (name.to_string(), holds)));
     let ticket = ticket::shown(&job.ticket).1;
-    let near_misses = refused_marks(&ticket, job.pages(), job.lengths(), refusal);
-    marks.extend(near_misses.into_iter().map(|(name, holds)| (name.to_string(), holds)));
     for (name, holds) in ticket_marks(&ticket) {
         marks.push((format!("done, {name}"), done && holds));
     }
     for (name, holds) in placing_marks(job, &ticket, done) {
         marks.push((format!("done, {name}"), done && holds));
-    }
-    marks
-}
-
-/// The same for a job of all phases at once.
-pub fn of_phases(job: &Job, outcome: &Outcome) -> Vec<(String, bool)> {
-    let refusal = outcome.answer.refusal;
-    let ticket = ticket::shown(&job.ticket).1;
-    let mut marks = vec![("done".to_string(), refusal == NONE)];
-    for number in [PHASE, SCRATCH_TOO_SHORT, PERIODIC_LINE] {
-        marks.push((format!("refused {number}"), refusal == number));
-    }
-    let near_misses = scratch_marks(&ticket, job.source_page(), job.lengths(), refusal);
-    marks.extend(near_misses.map(|(name, holds)| (name.to_string(), holds)));
-    for (name, holds) in phases::marks(job, &ticket, refusal == NONE) {
-        marks.push((format!("done, {name}"), refusal == NONE && holds));
     }
     marks
 }
@@ -78,45 +58,29 @@ fn tie(lines: Lines, sides: Sides) -> bool {
     lines.kind == CONNECTED && room && (0..side).any(halfway)
 }
 
-/// Whether a buffer is one byte shorter than it must be.
-fn one_short(needed: u128, length: u64) -> bool {
-    needed == u128::from(length) + 1
-}
-
-/// Near misses of scratch. Only an operation of all phases is refused where one phase has enough.
-fn scratch_marks(ticket: &Ticket, page: Placement, lengths: Lengths, refusal: u8) -> [Mark; 3] {
-    let too_short = refusal == SCRATCH_TOO_SHORT;
-    let needed = |ticket: &Ticket| scratch_needed(ticket, page.width, page.height);
-    let short = too_short && one_short(needed(ticket), lengths.scratch);
-    let one_phase = too_short && needed(&Ticket::zero()) <= u128::from(lengths.scratch);
-    [
-        ("scratch one byte short", short),
-        ("scratch one byte short, all phases", short && one_phase),
-        ("scratch for one phase, all phases", one_phase),
-    ]
-}
-
 /// Near misses, each with the refusal it is there for.
 pub fn refused_marks(
-    ticket: &Ticket,
     [source, output]: [Placement; 2],
     lengths: Lengths,
     refusal: u8,
-) -> Vec<Mark> {
+) -> [(&'static str, bool); 9] {
+    let one_short = |needed: u128, length: u64| needed == u128::from(length) + 1;
+    let needed = || scratch_needed(source.width, source.height);
     let (sides, strides) = ([source.width, source.height], [source.stride, output.stride]);
     let (beyond, near_end) = (refusal == BEYOND_LIMITS, u64::MAX - 200);
     let (no_source, no_output) = (refusal == SOURCE_DOES_NOT_FIT, refusal == OUTPUT_DOES_NOT_FIT);
-    let others = [
+    let no_scratch = refusal == SCRATCH_TOO_SHORT;
+    [
         ("source one byte short", no_source && one_short(source.end(), lengths.source)),
         ("output one byte short", no_output && one_short(output.end(), lengths.output)),
+        ("scratch one byte short", no_scratch && one_short(needed(), lengths.scratch)),
         ("source offset near 2^64", no_source && source.offset >= near_end),
         ("output offset near 2^64", no_output && output.offset >= near_end),
         ("side 0", beyond && sides.contains(&0)),
         ("side above 8192", beyond && sides.iter().any(|&side| side > LONGEST_SIDE)),
         ("stride below the width", beyond && strides.iter().any(|&stride| stride < source.width)),
         ("stride above 16384", beyond && strides.iter().any(|&stride| stride > LONGEST_STRIDE)),
-    ];
-    scratch_marks(ticket, source, lengths, refusal).into_iter().chain(others).collect()
+    ]
 }
 
 /// A way for a vector to point, and whether dx and dy do.
@@ -134,17 +98,14 @@ const SLOPES: [Slope; 8] = [
     ("upright", |dx, _| dx == 0),
 ];
 
-fn slope_marks(ticket: &Ticket) -> [Mark; SLOPES.len()] {
-    SLOPES.map(|(slope, points)| (slope, points(ticket.dx, ticket.dy)))
-}
-
 pub fn ticket_marks(ticket: &Ticket) -> Vec<(String, bool)> {
-    let operations = (1..).zip(["erode", "dilate", "open", "close", "open all", "close all"]);
+    let operations = (1..).zip(["erode", "dilate", "open", "close"]);
     let mut marks: Vec<_> =
         operations.map(|(n, name)| (name.to_string(), ticket.operation == n)).collect();
     for (line, kind) in [(CONNECTED, "connected"), (PERIODIC, "periodic")] {
-        for (slope, holds) in slope_marks(ticket) {
-            marks.push((format!("{kind}, {slope}"), ticket.line == line && holds));
+        for (slope, holds) in SLOPES {
+            let met = ticket.line == line && holds(ticket.dx, ticket.dy);
+            marks.push((format!("{kind}, {slope}"), met));
         }
     }
     marks.push(("with a phase".to_string(), ticket.phase > 0));
@@ -153,12 +114,11 @@ pub fn ticket_marks(ticket: &Ticket) -> Vec<(String, bool)> {
     marks
 }
 
-fn placing_marks(job: &Job, ticket: &Ticket, done: bool) -> [Mark; 9] {
+fn placing_marks(job: &Job, ticket: &Ticket, done: bool) -> [(&'static str, bool); 9] {
     let (source, output) = (job.source_page(), job.output_page());
     let room_beside = |page: Placement| page.stride / 2 >= page.width;
     let ends = |page: Placement, tray: &[u8]| done && page.end() == tray.len() as u128;
-    let needed = || scratch_needed(ticket, job.width, job.height);
-    let scratch_ends = || needed() == job.scratch.len() as u128;
+    let scratch_ends = || scratch_needed(job.width, job.height) == job.scratch.len() as u128;
     let trays_end = ends(source, &job.source) && ends(output, &job.output);
     let old = [&job.output, &job.scratch].map(|bytes| bytes.iter().any(|&byte| byte != 0));
     [

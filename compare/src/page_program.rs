@@ -3,7 +3,6 @@
 use crate::job::{self, Job};
 use crate::placement::scratch_needed;
 use crate::refusal;
-use crate::ticket;
 
 /// Width, height and ticket length, two bytes each.
 const HEADER: usize = 6;
@@ -42,10 +41,8 @@ pub fn reply(input: &[u8]) -> Reply {
 }
 
 /// "Both its pages stand at offset 0 with stride w, and its trays and scratch are just long
-/// enough": w·h bytes a tray. With a zero side the trays are empty and the job is refused, and so is
-/// one whose ticket shows no operation to need scratch for.
+/// enough": w·h bytes a tray. With a zero side the trays are empty and the job is refused.
 fn answered(width: u64, height: u64, ticket: &[u8], source: &[u8]) -> Reply {
-    let needed = scratch_needed(&ticket::shown(ticket).1, width, height);
     let outcome = job::run(&Job {
         ticket: ticket.to_vec(),
         width,
@@ -56,7 +53,7 @@ fn answered(width: u64, height: u64, ticket: &[u8], source: &[u8]) -> Reply {
         output_stride: width,
         source: source.to_vec(),
         output: vec![0; source.len()],
-        scratch: vec![0; needed as usize],
+        scratch: vec![0; scratch_needed(width, height) as usize],
     });
     let answer = outcome.answer;
     if answer.refusal != refusal::NONE {

@@ -1,8 +1,7 @@
-//! Document 01, "Placing a page", and the scratch of wish 6. All sums are over whole numbers: u128
-//! holds an offset near the end of 64 bits and what is added to it, so the sum cannot look small.
+//! Document 01, "Placing a page". All sums are over whole numbers: u128 holds an offset near the
+//! end of 64 bits and what is added to it, so the sum cannot look small.
 
 use crate::lines::{Pixel, Sides};
-use crate::ticket::Ticket;
 
 /// "w and h 1 to 8192".
 pub const LONGEST_SIDE: u64 = 8192;
@@ -50,10 +49,8 @@ impl Placement {
     }
 }
 
-/// "2·w·h + 3·max(w, h) bytes", and "for 5 and 6 alone scratch grows by w·h"; asked only of sides
-/// within 32 bits.
-pub fn scratch_needed(ticket: &Ticket, width: u64, height: u64) -> u128 {
+/// "2·w·h + 3·max(w, h) bytes"; asked only of sides within 32 bits.
+pub fn scratch_needed(width: u64, height: u64) -> u128 {
     let (width, height) = (u128::from(width), u128::from(height));
-    let pages = if ticket.all_phases() { 3 } else { 2 };
-    pages * width * height + 3 * width.max(height)
+    2 * width * height + 3 * width.max(height)
 }

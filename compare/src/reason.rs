@@ -1,7 +1,7 @@
 //! Document 02, wish 4: "Why did this pixel come out so?" The windows are listed step by step and
-//! the first step that gives the result is taken; before it, by wish 6, the lowest phase.
+//! the first step that gives the result is taken.
 
-use crate::filter::{holds, join, Page, Pass};
+use crate::filter::{holds, Page, Pass};
 use crate::job::{self, Job, Lengths};
 use crate::lines::{Lines, Pixel, Sides, Way};
 use crate::placement::Placement;
@@ -101,7 +101,6 @@ fn named(question: &Question, ticket: &Ticket) -> Reason {
     }
     let greys = question.source_page.greys(&question.source);
     let page = Page::unhidden(question.source_page.sides(), &greys, boxes);
-    let ticket = &in_lowest_phase(&page, ticket, pixel);
     let (kind, through, from) = match *Pass::of(ticket.operation) {
         [only] => (ONE_PASS, pixel, first_giving(&page, ticket, only, pixel)),
         [first, second] => {
@@ -114,24 +113,10 @@ fn named(question: &Question, ticket: &Ticket) -> Reason {
     Reason { kind, phase: ticket.phase, through, from, ..Reason::default() }
 }
 
-/// "Wish 4 names the lowest phase that gives the result first": the ticket in that phase.
-fn in_lowest_phase(page: &Page, ticket: &Ticket, pixel: Pixel) -> Ticket {
-    let tickets: Vec<Ticket> = ticket.in_each_phase().collect();
-    if let [only] = tickets[..] {
-        return only;
-    }
-    let passes = Pass::of(ticket.operation);
-    let results = tickets.iter().map(|ticket| page.result(ticket, passes, pixel));
-    let results: Vec<u8> = results.map(|result| result.expect("it is not hidden")).collect();
-    let joined = results.iter().copied().reduce(|one, other| join(ticket.operation, one, other));
-    let lowest = results.iter().position(|&result| Some(result) == joined);
-    tickets[lowest.expect("an extreme is one of those it is taken of")]
-}
-
 /// The first step of an unhidden pixel's window that has, before a pass, what the pixel has after
 /// it. A hidden step has nothing, so it is never the first.
 fn first_giving(page: &Page, ticket: &Ticket, pass: Pass, pixel: Pixel) -> Pixel {
-    let result = page.result(ticket, &[pass], pixel);
+    let result = page.result(ticket, pass, pixel);
     let steps = window(page.sides, ticket, pass, pixel);
     let first = steps.into_iter().find(|&at| page.grey(at) == result);
     first.expect("an extreme is one of the greys it is taken of")

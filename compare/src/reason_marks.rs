@@ -1,7 +1,6 @@
 //! What a summary counts of a question about a pixel: its refusal, where the pixel lies, which
-//! boxes hold it, and what the phases and windows hold that are searched.
+//! boxes hold it, and what the windows hold that are searched.
 
-mod phases;
 mod steps;
 
 use crate::filter::holds;
@@ -9,7 +8,7 @@ use crate::lines::Pixel;
 use crate::marks::{refused_marks, ticket_marks};
 use crate::placement::{LONGEST_SIDE, LONGEST_STRIDE};
 use crate::reason::{Question, Reason, HIDDEN, ONE_PASS, TWO_PASSES};
-use crate::refusal::{self, NONE, OUTPUT_DOES_NOT_FIT, PIXEL_OFF_PAGE};
+use crate::refusal::{BOX_OFF_PAGE, NONE, OUTPUT_DOES_NOT_FIT, PIXEL_OFF_PAGE, TICKET_ENDS};
 use crate::ticket::{self, HiddenBox, Ticket};
 
 type Mark = (&'static str, bool);
@@ -18,7 +17,7 @@ type Mark = (&'static str, bool);
 pub fn of(question: &Question, reason: &Reason) -> Vec<(String, bool)> {
     let ticket = ticket::shown(&question.ticket).1;
     let mut marks: Vec<(String, bool)> = Vec::new();
-    for number in refusal::of_jobs() {
+    for number in TICKET_ENDS..=BOX_OFF_PAGE {
         let refused = reason.refusal == number;
         marks.push((format!("refused {number}"), refused));
         marks.push((
@@ -27,7 +26,7 @@ pub fn of(question: &Question, reason: &Reason) -> Vec<(String, bool)> {
         ));
     }
     let kinds = kind_marks(reason).into_iter();
-    let near_misses = refused_marks(&ticket, question.pages(), question.lengths(), reason.refusal);
+    let near_misses = refused_marks(question.pages(), question.lengths(), reason.refusal);
     let plain = kinds.chain(near_misses).chain(length_marks(question, reason));
     marks.extend(plain.map(|(name, holds)| (name.to_string(), holds)));
     // What is counted of an answer does not hold of a refused question, whatever pixel it asks for.
@@ -39,11 +38,10 @@ pub fn of(question: &Question, reason: &Reason) -> Vec<(String, bool)> {
     add("hidden", reason.kind == HIDDEN, &hidden_marks(at, &ticket, reason));
     let named = reason.kind == ONE_PASS || reason.kind == TWO_PASSES;
     add("named", named, &page_marks(question));
-    add("all phases", named, &phases::marks(question, &ticket, reason));
     for (name, holds) in ticket_marks(&ticket) {
         marks.push((format!("named, {name}"), named && holds));
     }
-    marks.extend(steps::marks(question, &Ticket { phase: reason.phase, ..ticket }, reason));
+    marks.extend(steps::marks(question, &ticket, reason));
     marks
 }
 

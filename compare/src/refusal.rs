@@ -1,9 +1,9 @@
-//! The numbers of document 01, "Refusals and what they return", those of wishes 1, 3, 4 and 6, and
-//! one that is the library's own.
+//! The numbers of document 01, "Refusals and what they return", those of wishes 1, 3 and 4, and one
+//! that is the library's own.
 
 /// Why a ticket, a file, a job, a list of jobs or a question about a pixel is refused. The place is
-/// a byte of the ticket for numbers 1 to 9 and 20, a box number for 14, a byte of the file for 15 to
-/// 17, the numbers needed for 100, and 0 for the rest.
+/// a byte of the ticket for numbers 1 to 9, a box number for 14, a byte of the file for 15 to 17,
+/// the numbers needed for 100, and 0 for the rest.
 #[derive(Clone, Copy, Debug, PartialEq, Eq)]
 pub struct Refusal {
     pub number: u8,
@@ -32,19 +32,8 @@ pub const MAXIMUM: u8 = 16;
 pub const PIXELS: u8 = 17;
 pub const TOO_MANY_JOBS: u8 = 18;
 pub const PIXEL_OFF_PAGE: u8 = 19;
-pub const PERIODIC_LINE: u8 = 20;
 /// In no document: a lent buffer of numbers is too short.
 pub const NUMBERS_TOO_FEW: u8 = 100;
-
-/// What a ticket read alone may meet.
-pub fn of_tickets() -> impl Iterator<Item = u8> {
-    (TICKET_ENDS..=PHASE).chain([PERIODIC_LINE])
-}
-
-/// What a job in trays may meet.
-pub fn of_jobs() -> impl Iterator<Item = u8> {
-    (TICKET_ENDS..=BOX_OFF_PAGE).chain([PERIODIC_LINE])
-}
 
 /// The refusal, unless what it asks for holds.
 pub fn unless(holds: bool, number: u8, place: u64) -> Result<(), Refusal> {

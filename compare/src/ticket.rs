@@ -1,5 +1,4 @@
-//! The ticket of document 01, with the operations of wish 6: ticket bytes to fields, or the refusal
-//! (1 to 9, 20) with its place.
+//! The ticket of document 01: ticket bytes to fields, or the refusal (1 to 9) with its place.
 
 use crate::refusal::{self, Refusal};
 
@@ -7,10 +6,6 @@ pub const ERODE: u8 = 1;
 pub const DILATE: u8 = 2;
 pub const OPEN: u8 = 3;
 pub const CLOSE: u8 = 4;
-/// Wish 6: "operation 5, the pixelwise maximum of the openings over all k phases, and 6, the minimum
-/// of the closings".
-pub const OPEN_ALL: u8 = 5;
-pub const CLOSE_ALL: u8 = 6;
 
 pub const CONNECTED: u8 = 1;
 pub const PERIODIC: u8 = 2;
@@ -61,22 +56,6 @@ impl Ticket {
     pub fn hidden_boxes(&self) -> &[HiddenBox] {
         &self.boxes[..usize::from(self.count)]
     }
-
-    /// k, how many phases a connected line has: max(abs dx, abs dy).
-    pub fn k(&self) -> u16 {
-        self.dx.unsigned_abs().max(self.dy.unsigned_abs())
-    }
-
-    /// Whether the operation goes over all phases at once.
-    pub fn all_phases(&self) -> bool {
-        [OPEN_ALL, CLOSE_ALL].contains(&self.operation)
-    }
-
-    /// This ticket in each phase that its operation goes over, the lowest first.
-    pub fn in_each_phase(&self) -> impl Iterator<Item = Ticket> + '_ {
-        let phases = if self.all_phases() { 0..self.k() } else { self.phase..self.phase + 1 };
-        phases.map(|phase| Ticket { phase, ..*self })
-    }
 }
 
 /// What a caller who reads a ticket alone is shown, for any bytes at all: refusal number 0 and
@@ -89,17 +68,14 @@ pub fn shown(bytes: &[u8]) -> (Refusal, Ticket) {
 }
 
 /// Reads the fields one by one; the first that fails decides the refusal. Later values lean on
-/// earlier ones: the line on the operation, the vector on the line, o on L, the phase on operation,
-/// line and vector.
+/// earlier ones: the vector on the line, o on L, the phase on line and vector.
 pub fn read(bytes: &[u8]) -> Result<Ticket, Refusal> {
     let mut ticket = Ticket::zero();
     let mut reader = Reader { bytes, head: 0, next: 0 };
     ticket.operation = reader.field(1, false)?[0];
-    reader.judge((ERODE..=CLOSE_ALL).contains(&ticket.operation), refusal::UNKNOWN_WORD)?;
+    reader.judge((ERODE..=CLOSE).contains(&ticket.operation), refusal::UNKNOWN_WORD)?;
     ticket.line = reader.field(2, false)?[0];
     reader.judge((CONNECTED..=PERIODIC).contains(&ticket.line), refusal::UNKNOWN_WORD)?;
-    let has_phases = ticket.line == CONNECTED;
-    reader.judge(has_phases || !ticket.all_phases(), refusal::PERIODIC_LINE)?;
     let vector = reader.field(3, false)?;
     (ticket.dx, ticket.dy) = (number(vector) as i16, number(&vector[2..]) as i16);
     let allowed = vector_allowed(ticket.line, i64::from(ticket.dx), i64::from(ticket.dy));
@@ -158,13 +134,12 @@ pub fn vector_allowed(line: u8, dx: i64, dy: i64) -> bool {
     within && (shallow || steep) && (line == PERIODIC || !common_divisor)
 }
 
-/// "Connected, below max(abs dx, abs dy); periodic, 0"; and for all phases at once, "phase must be
-/// 0".
+/// "Connected, below max(abs dx, abs dy); periodic, 0".
 fn phase_allowed(ticket: &Ticket) -> bool {
-    if ticket.line == PERIODIC || ticket.all_phases() {
+    if ticket.line == PERIODIC {
         return ticket.phase == 0;
     }
-    ticket.phase < ticket.k()
+    ticket.phase < ticket.dx.unsigned_abs().max(ticket.dy.unsigned_abs())
 }
 
 /// The big-endian number in the first two bytes.

@@ -5,7 +5,7 @@ mod pages;
 mod tickets;
 
 use crate::job;
-use crate::refusal::{self, NONE, TOO_MANY_JOBS};
+use crate::refusal::{BOX_OFF_PAGE, NONE, TICKET_ENDS, TOO_MANY_JOBS};
 use crate::tray::{Call, Listed, Outcome, ANSWERS, ANSWER_NUMBERS, JOB_NUMBERS, MOST_JOBS};
 
 /// Pairs of jobs are looked for among so many at a list's beginning.
@@ -35,7 +35,7 @@ pub fn of(call: &Call, outcome: &Outcome) -> Vec<(String, bool)> {
     marks.extend(number_marks(call, outcome));
     marks.extend(tickets::marks(call, &all));
     marks.extend(pages::marks(call, outcome, &all));
-    let refused = refusal::of_jobs()
+    let refused = (TICKET_ENDS..=BOX_OFF_PAGE)
         .map(|number| (format!("refused {number} between finished jobs"), between(&all, number)));
     marks.into_iter().map(|(name, holds)| (name.to_string(), holds)).chain(refused).collect()
 }

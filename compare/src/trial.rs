@@ -56,8 +56,8 @@ impl Trial {
         kinds.iter().for_each(|kind| self.count(kind, 0));
     }
 
-    pub fn expect_refusals(&mut self, numbers: impl Iterator<Item = u8>) {
-        numbers.for_each(|number| self.count(&format!("refused {number}"), 0));
+    pub fn expect_refusals(&mut self, last: u8) {
+        (1..=last).for_each(|number| self.count(&format!("refused {number}"), 0));
     }
 
     /// A kind that must be due once at least in a long run.

@@ -1,18 +1,12 @@
-//! Document 01, "Work", and that of wish 6: comparisons, counted on every line of the page, block by
-//! block.
+//! Document 01, "Work": comparisons, counted on every line of the page, block by block.
 
 use crate::filter::{Pass, Window};
 use crate::lines::{Lines, Sides};
 use crate::ticket::Ticket;
 
-/// The work of a finished job: "all passes and one comparison per pixel for each phase after the
-/// first". It looks at no pixel and at no box.
+/// The work of a finished job. It looks at no pixel and at no box.
 pub fn of_job(sides: Sides, ticket: &Ticket) -> u64 {
-    let joined = (ticket.in_each_phase().count() as u64 - 1) * (sides.width * sides.height) as u64;
-    let in_phase = |ticket: Ticket| -> u64 {
-        Pass::of(ticket.operation).iter().map(|&pass| of_pass(sides, &ticket, pass)).sum()
-    };
-    joined + ticket.in_each_phase().map(in_phase).sum::<u64>()
+    Pass::of(ticket.operation).iter().map(|&pass| of_pass(sides, ticket, pass)).sum()
 }
 
 pub fn of_pass(sides: Sides, ticket: &Ticket, pass: Pass) -> u64 {

@@ -5,7 +5,7 @@ use std::io::Write;
 use std::process::{Command, Output, Stdio};
 use std::time::Duration;
 
-use compare::generate::{file_job, flip_pair, job, page_input, phases_job, question, tray_call};
+use compare::generate::{file_job, flip_pair, job, page_input, question, tray_call};
 use compare::trial::Trial;
 use compare::{file_list, job_list, program, question_list, tray_list};
 
@@ -26,8 +26,6 @@ fn words_that_print() {
     assert_eq!(compare(&["make", "1", "5"], b"").stdout, page_input(1, 5));
     let jobs = [5, 6].map(|index| job_list::entry(&job(1, index))).concat();
     assert_eq!(compare(&["make-jobs", "1", "5", "2"], b"").stdout, jobs);
-    let phases = [5, 6].map(|index| job_list::entry(&phases_job(1, index))).concat();
-    assert_eq!(compare(&["make-phases", "1", "5", "2"], b"").stdout, phases);
     let flips = flip_pair(1, 5).map(|job| job_list::entry(&job)).concat();
     assert_eq!(compare(&["make-flips", "1", "5", "1"], b"").stdout, flips);
     let files = [5, 6].map(|index| file_list::entry(&file_job(1, index).job)).concat();
@@ -70,7 +68,7 @@ fn words_that_say_nothing() {
 
 /// What a driver prints of a program, and how many differences; these decide its exit status.
 fn driven(word: &str, count: u64, program: &[&str]) -> (String, u64) {
-    let output = compare(&[&[word, "5", &count.to_string()], program].concat(), b"");
+    let output = compare(&[&[word, "2", &count.to_string()], program].concat(), b"");
     let text = String::from_utf8_lossy(&output.stdout).to_string();
     let number =
         |line: &str| line.strip_suffix(" differences")?.split(' ').next_back()?.parse().ok();
@@ -92,7 +90,6 @@ fn drivers_agree_with_this_reading() {
         ("tickets", 3000, "ticket-list", "3000 tickets"),
         ("numbers", 60, "number-list", "60 line samples"),
         ("jobs", 120, "job-list", "120 jobs"),
-        ("phases", 120, "job-list", "120 jobs of all phases"),
         ("flips", 120, "job-list", "120 jobs and their flipped jobs"),
         ("files", 120, "file-list", "120 files"),
         ("lists", 120, "tray-list", "120 lists of jobs"),
@@ -112,7 +109,7 @@ fn wrong_texts_are_told() {
     let refused_3 = "compare ticket-list | sed 's/^refused 5/refused 3/'";
     let (told, differences) = by_shell("tickets", 4000, refused_3);
     assert!(differences > 0 && told.contains(&format!("\nrefused 5: {differences}\n")));
-    assert_eq!(told.matches("difference at seed 5 index").count(), 3);
+    assert_eq!(told.matches("difference at seed 2 index").count(), 3);
     let texts = "due:\nrefused 5 at 734\n\nprinted, right up to byte 8:\nrefused 3 at 734\n";
     assert!(told.contains(texts));
     let (told, differences) = by_shell("tickets", 4000, "compare ticket-list | sed '/cut/d'");
@@ -132,7 +129,7 @@ fn lines_of_jobs_are_compared_whole() {
     }
     // The eleventh job of each run crashes.
     let (told, _) = by_shell("jobs", 120, "compare job-list | sed -n 1,10p; kill -SEGV $$");
-    assert!([10, 60, 110].iter().all(|at| told.contains(&format!("at seed 5 index {at}\n"))));
+    assert!([10, 60, 110].iter().all(|at| told.contains(&format!("at seed 2 index {at}\n"))));
     assert_eq!(told.matches("the program ended by signal 11").count(), 3);
     assert!(told.contains("120 jobs, 3 differences\n") && told.ends_with("time limit: 3\n"));
 }

@@ -10,7 +10,7 @@ use compare::number_list::kind;
 use compare::page_program::{reply, Reply};
 use compare::pgm;
 use compare::placement::scratch_needed;
-use compare::ticket::{read, shown, CLOSE, CLOSE_ALL, CONNECTED, ERODE, OPEN_ALL, PERIODIC};
+use compare::ticket::{read, shown, CLOSE, ERODE};
 use compare::tray::{self, ANSWERS, ANSWER_NUMBERS};
 use compare::{file_job, file_list, question_list, reason, reason_marks};
 use compare::{tray_list, tray_marks};
@@ -27,31 +27,22 @@ fn two_thousand_page_inputs_bring_every_answer() {
             done.insert((ticket.operation, ticket.line));
         }
     }
-    let refusals = (1..=10).chain([14, 20]).map(|number| format!("refused {number}"));
+    let refusals = (1..=10).chain([14]).map(|number| format!("refused {number}"));
     let others = ["done", "bad input", "too big"].map(String::from);
     assert_eq!(kinds, refusals.chain(others).collect());
-    assert_eq!(done, operations_and_lines().collect());
-}
-
-/// Four operations along two kinds of line, and those of all phases along connected ones.
-fn operations_and_lines() -> impl Iterator<Item = (u8, u8)> {
-    let one_phase = (ERODE..=CLOSE).flat_map(|n| [(n, CONNECTED), (n, PERIODIC)]);
-    one_phase.chain([OPEN_ALL, CLOSE_ALL].map(|n| (n, CONNECTED)))
+    let all = (ERODE..=CLOSE).flat_map(|operation| [(operation, 1), (operation, 2)]);
+    assert_eq!(done, all.collect());
 }
 
 #[test]
-fn tickets_bring_every_refusal_every_operation_and_every_number_of_boxes_at_the_limit() {
-    let (mut numbers, mut counts, mut shown_so) =
-        (BTreeSet::new(), BTreeSet::new(), BTreeSet::new());
+fn tickets_bring_every_refusal_and_every_number_of_boxes_at_the_limit() {
+    let (mut numbers, mut counts) = (BTreeSet::new(), BTreeSet::new());
     for index in 0..2000 {
         let (refusal, ticket) = shown(&generate::ticket(2, index));
         numbers.insert(refusal.number);
         counts.insert(ticket.count);
-        shown_so.insert((ticket.operation, ticket.line));
     }
-    // A refused ticket shows neither.
-    assert_eq!(shown_so, operations_and_lines().chain([(0, 0)]).collect());
-    assert_eq!(numbers, (0..=9).chain([20]).collect());
+    assert_eq!(numbers, (0..=9).collect());
     assert!([0, 1, 2, 63, 64].iter().all(|count| counts.contains(count)));
 }
 
@@ -81,8 +72,7 @@ fn jobs_bring_all_that_is_counted_and_write_only_what_they_may() {
             assert_eq!((&outcome.output, &outcome.scratch), (&job.output, &job.scratch));
             continue;
         }
-        let ticket = read(&job.ticket).expect("it is done");
-        let needed = scratch_needed(&ticket, job.width, job.height) as usize;
+        let needed = scratch_needed(job.width, job.height) as usize;
         assert!(outcome.scratch[..needed].iter().all(|&byte| byte == 0));
         assert_eq!(outcome.scratch[needed..], job.scratch[needed..]);
         for (at, (later, old)) in (0u64..).zip(outcome.output.iter().zip(&job.output)) {
@@ -93,20 +83,7 @@ fn jobs_bring_all_that_is_counted_and_write_only_what_they_may() {
             assert!(on_page || later == old, "byte {at} of job {index}");
         }
     }
-    assert_eq!(numbers, (0..=14).chain([20]).collect());
-    assert_eq!(missed, BTreeSet::new());
-}
-
-#[test]
-fn jobs_of_all_phases_mostly_finish_and_bring_all_that_is_counted() {
-    let (mut done, mut missed) = (0, BTreeSet::new());
-    for index in 0..2000 {
-        let job = generate::phases_job(3, index);
-        let outcome = run(&job);
-        done += u32::from(outcome.answer.refusal == 0);
-        still_missed(&mut missed, index, marks::of_phases(&job, &outcome));
-    }
-    assert!(done > 1700);
+    assert_eq!(numbers, (0..=14).collect());
     assert_eq!(missed, BTreeSet::new());
 }
 
@@ -146,14 +123,14 @@ fn files_are_of_every_kind_and_meet_every_answer() {
         assert_eq!([written.width, written.height, u64::from(written.maximum)], sides);
         assert_eq!(written.start + written.width * written.height, length as u64);
         assert_eq!(outcome.output[length..], job.output[length..]);
-        let needed = scratch_needed(&ticket, header.width, header.height) as usize;
+        let needed = scratch_needed(header.width, header.height) as usize;
         assert!(outcome.scratch[..needed].iter().all(|&byte| byte == 0));
         assert_eq!(outcome.scratch[needed..], job.scratch[needed..]);
     }
-    assert_eq!(numbers, (0..=17).chain([20]).filter(|&number| number != 11).collect());
+    assert_eq!(numbers, (0..=17).filter(|&number| number != 11).collect());
     assert_eq!(missed, BTreeSet::new());
-    // Each with boxes and without.
-    assert_eq!(done.len(), 2 * operations_and_lines().count());
+    // Four operations along two kinds of line, each with boxes and without.
+    assert_eq!(done.len(), 4 * 2 * 2);
 }
 
 #[test]
@@ -208,7 +185,7 @@ fn lists_bring_all_that_is_counted_and_write_only_what_they_may() {
         }
         let jobs = if outcome.answer.refusal == 0 { call.count as usize } else { 0 };
         let (given, zero) = outcome.answers[..ANSWERS].split_at(ANSWER_NUMBERS * jobs);
-        assert!(given.chunks(ANSWER_NUMBERS).all(|answer| answer[0] <= 14 || answer[0] == 20));
+        assert!(given.chunks(ANSWER_NUMBERS).all(|answer| answer[0] <= 14));
         assert!(zero.iter().all(|&number| number == 0));
         assert_eq!(outcome.answers[ANSWERS..], call.answers[ANSWERS..]);
     }
@@ -228,7 +205,7 @@ fn questions_bring_all_that_is_counted() {
         assert_eq!(question_list::first(&entry), Some((question.clone(), &[][..])));
         still_missed(&mut missed, index, reason_marks::of(&question, &reason));
     }
-    assert_eq!(numbers, (0..=14).chain([19, 20]).collect());
+    assert_eq!(numbers, (0..=14).chain([19]).collect());
     assert_eq!(kinds, [0, 1, 3, 4].into());
     assert_eq!(missed, BTreeSet::new());
 }

@@ -8,7 +8,7 @@ use compare::lines::{Lines, Pixel};
 use compare::question_list;
 use compare::reason::{of, Question, Reason, HIDDEN, ONE_PASS, TWO_PASSES};
 use compare::ticket::{self, HiddenBox, Ticket};
-use compare::ticket::{CLOSE, CLOSE_ALL, CONNECTED, DILATE, ERODE, OPEN, OPEN_ALL, PERIODIC};
+use compare::ticket::{CLOSE, CONNECTED, DILATE, ERODE, OPEN, PERIODIC};
 
 /// Connected (1, 0), phase 0, no box.
 fn draft(operation: u8, length: u16, origin: u16) -> Draft {
@@ -24,7 +24,6 @@ fn question(rows: &[&[u8]], draft: &Draft, (column, row): (u64, u64)) -> Questio
     for (at, row) in rows.iter().enumerate() {
         source[4 + (width + 2) * at..][..width].copy_from_slice(row);
     }
-    let pages = if [OPEN_ALL, CLOSE_ALL].contains(&draft.operation) { 3 } else { 2 };
     let job = Job {
         ticket: draft.bytes(),
         width: width as u64,
@@ -35,7 +34,7 @@ fn question(rows: &[&[u8]], draft: &Draft, (column, row): (u64, u64)) -> Questio
         output_stride: width as u64,
         source,
         output: vec![0; 1 + width * height],
-        scratch: vec![0; pages * width * height + 3 * width.max(height)],
+        scratch: vec![0; 2 * width * height + 3 * width.max(height)],
     };
     Question::about(job, column, row)
 }
@@ -184,33 +183,6 @@ fn steep_and_periodic_lines() {
     assert_eq!(named(&connected, (1, 1)), (1, 2));
 }
 
-#[test]
-fn the_lowest_phase_comes_first() {
-    let rows: [&[u8]; 3] = [&[1, 2, 3], &[4, 5, 6], &[7, 8, 9]];
-    let named = |operation, at| {
-        let draft = Draft { dx: 2, dy: 1, ..draft(operation, 2, 1) };
-        let Reason { kind, phase, through, from, .. } = of(&question(&rows, &draft, at));
-        assert_eq!(kind, TWO_PASSES);
-        (phase, (through.column, through.row), (from.column, from.row))
-    };
-    // Opened 1 2 2 / 4 5 5 / 7 8 8 in phase 0, and 1 2 3 / 4 5 2 / 7 7 5 in phase 1.
-    assert_eq!(named(OPEN_ALL, (2, 0)), (1, (2, 0), (2, 0)));
-    assert_eq!(named(OPEN_ALL, (2, 1)), (0, (2, 1), (1, 1)));
-    assert_eq!(named(OPEN_ALL, (1, 2)), (0, (2, 2), (1, 2)));
-    // Both phases give 5, phase 1 from the same pixel by way of 2/2.
-    assert_eq!(named(OPEN_ALL, (1, 1)), (0, (2, 1), (1, 1)));
-    // Closed 5 3 3 / 8 5 6 / 7 8 9 in phase 0, and 2 2 3 / 5 5 6 / 8 8 9 in phase 1.
-    assert_eq!(named(CLOSE_ALL, (0, 0)), (1, (0, 0), (1, 0)));
-    assert_eq!(named(CLOSE_ALL, (0, 2)), (0, (0, 2), (0, 2)));
-    assert_eq!(named(CLOSE_ALL, (1, 1)), (0, (0, 0), (1, 1)));
-    assert_eq!(named(CLOSE_ALL, (1, 0)), (1, (0, 0), (1, 0)));
-    // Scratch for one phase is too little to ask about all.
-    let all = question(&rows, &Draft { dx: 2, dy: 1, ..draft(OPEN_ALL, 2, 1) }, (0, 0));
-    assert_eq!(all.scratch_length, 36);
-    assert_eq!(refused(&Question { scratch_length: 35, ..all.clone() }), (13, 0));
-    assert_eq!(refused(&Question { scratch_length: 27, ..all }), (13, 0));
-}
-
 /// Refusal and place, all else zero.
 fn refused(question: &Question) -> (u8, u64) {
     let reason = of(question);
@@ -240,10 +212,7 @@ fn a_pixel_off_the_page_is_refused_last() {
             |length: usize| Question { ticket: asked(at).ticket[..length].to_vec(), ..asked(at) };
         assert_eq!((refused(&cut(0)), refused(&cut(29))), ((1, 0), (1, 25)));
         let wrong = |draft: Draft| refused(&question(&rows, &draft, at));
-        assert_eq!(wrong(draft(7, 2, 0)), (4, 0));
-        assert_eq!(wrong(Draft { line: PERIODIC, ..draft(OPEN_ALL, 2, 0) }), (20, 4));
-        let sloping = Draft { dx: 2, dy: 1, phase: 1, ..draft(CLOSE_ALL, 2, 0) };
-        assert_eq!(wrong(sloping), (9, 25));
+        assert_eq!(wrong(draft(5, 2, 0)), (4, 0));
         assert_eq!(wrong(Draft { dx: 2, ..draft(OPEN, 2, 0) }), (6, 8));
         assert_eq!((wrong(draft(OPEN, 0, 0)), wrong(draft(OPEN, 2, 2))), ((7, 15), (8, 20)));
         assert_eq!(wrong(Draft { phase: 1, ..draft(OPEN, 2, 0) }), (9, 25));
@@ -280,7 +249,7 @@ fn lengths_are_only_said() {
     }
 }
 
-/// The line of the pixel asked about, out of all lines of the page in a phase, and its unhidden greys.
+/// The line of the pixel asked about, out of all lines of the page, and its unhidden greys.
 struct Listed {
     ticket: Ticket,
     line: Vec<Pixel>,
@@ -288,7 +257,8 @@ struct Listed {
 }
 
 impl Listed {
-    fn of(question: &Question, ticket: Ticket) -> Listed {
+    fn of(question: &Question) -> Listed {
+        let ticket = ticket::read(&question.ticket).expect("a step is named");
         let (page, asked) = (question.source_page, question.pixel());
         let every_line = Lines::of(&ticket).every_line(page.sides());
         let line = every_line.into_iter().find(|line| line.contains(&asked)).expect("it has one");
@@ -319,52 +289,31 @@ impl Listed {
     }
 }
 
-/// Through and from once more, in the ticket's phase, by step numbers on a listed line; and the
-/// result.
-fn in_phase(question: &Question, ticket: Ticket) -> (Pixel, Pixel, Option<u8>) {
-    let listed = Listed::of(question, ticket);
+/// Through and from once more, by step numbers on a listed line.
+fn by_listed_lines(question: &Question) -> (Pixel, Pixel) {
+    let listed = Listed::of(question);
     let Listed { ticket, line, greys } = &listed;
     let x = line.iter().position(|&at| at == question.pixel()).expect("it is there");
     let passes = Pass::of(ticket.operation);
     let between: Vec<_> = (0..line.len()).map(|at| listed.after(passes[0], greys, at)).collect();
     let through = if passes.len() == 2 { listed.first(passes[1], &between, x) } else { x };
-    let from = listed.first(passes[0], greys, through);
-    (line[through], line[from], greys[from])
-}
-
-/// Phase, through and from once more: of all phases whose result is the extreme one the lowest.
-fn by_listed_lines(question: &Question) -> (u16, Pixel, Pixel) {
-    let ticket = ticket::read(&question.ticket).expect("a step is named");
-    let (through, from, mut extreme) = in_phase(question, ticket);
-    let mut named = (ticket.phase, through, from);
-    let phases = if ticket.all_phases() { ticket.dx.abs().max(ticket.dy) as u16 } else { 1 };
-    for phase in 1..phases {
-        let (through, from, result) = in_phase(question, Ticket { phase, ..ticket });
-        let opens = ticket.operation == OPEN_ALL;
-        if if opens { result > extreme } else { result < extreme } {
-            (named, extreme) = ((phase, through, from), result);
-        }
-    }
-    named
+    (line[through], line[listed.first(passes[0], greys, through)])
 }
 
 #[test]
 fn walks_and_listed_lines_name_the_same() {
     let small =
         |question: &Question| question.source_page.width.max(question.source_page.height) < 50;
-    let (mut named, mut in_other_phases) = (0, 0);
+    let mut named = 0;
     for question in (0..3000).map(|index| generate::question(8, index)).filter(small) {
         let reason = of(&question);
         if [ONE_PASS, TWO_PASSES].contains(&reason.kind) {
             let due = by_listed_lines(&question);
-            let told = question_list::told(&question);
-            assert_eq!((reason.phase, reason.through, reason.from), due, "{told}");
+            assert_eq!((reason.through, reason.from), due, "{}", question_list::told(&question));
             named += 1;
-            let ticket = ticket::shown(&question.ticket).1;
-            in_other_phases += u32::from(ticket.all_phases() && reason.phase > 0);
         }
     }
-    assert!(named > 1000 && in_other_phases > 50, "{named} {in_other_phases}");
+    assert!(named > 1000);
 }
 
 #[test]

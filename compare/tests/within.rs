@@ -5,8 +5,7 @@ use compare::generate::{line_sample, Draft, LineSample};
 use compare::job::WHITE;
 use compare::lines::{Lines, Pixel, Sides, Way};
 use compare::random::Random;
-use compare::ticket::{read, Ticket};
-use compare::ticket::{CLOSE, CLOSE_ALL, CONNECTED, DILATE, ERODE, OPEN, OPEN_ALL, PERIODIC};
+use compare::ticket::{read, Ticket, CLOSE, CONNECTED, DILATE, ERODE, OPEN};
 use compare::work;
 
 /// A small page, its greys and an accepted ticket.
@@ -58,9 +57,8 @@ fn a_line_stays_nearest_to_the_true_line() {
     }
 }
 
-/// The same filter, in the ticket's phase, by step numbers on listed lines instead of walks from each
-/// pixel.
-fn in_phase(sides: Sides, greys: &[u8], ticket: &Ticket) -> Vec<u8> {
+/// The same filter by step numbers on listed lines instead of walks from each pixel.
+fn by_listed_lines(sides: Sides, greys: &[u8], ticket: &Ticket) -> Vec<u8> {
     let place = |at: Pixel| (at.row * sides.width + at.column) as usize;
     let covered = |at: &Pixel| hidden(ticket.hidden_boxes(), *at);
     let mut page = greys.to_vec();
@@ -82,20 +80,6 @@ fn in_phase(sides: Sides, greys: &[u8], ticket: &Ticket) -> Vec<u8> {
     page
 }
 
-/// All phases joined pixel by pixel, or the one that there is; what is hidden is white in each.
-fn by_listed_lines(sides: Sides, greys: &[u8], ticket: &Ticket) -> Vec<u8> {
-    let mut page = in_phase(sides, greys, ticket);
-    let phases = if ticket.all_phases() { ticket.dx.abs().max(ticket.dy) as u16 } else { 1 };
-    for phase in 1..phases {
-        let other = in_phase(sides, greys, &Ticket { phase, ..*ticket });
-        for (grey, other) in page.iter_mut().zip(other) {
-            let opens = ticket.operation == OPEN_ALL;
-            *grey = if opens { other.max(*grey) } else { other.min(*grey) };
-        }
-    }
-    page
-}
-
 #[test]
 fn walks_and_listed_lines_agree() {
     for index in 0..400 {
@@ -113,17 +97,14 @@ fn openings_and_closings_keep_their_laws_and_hidden_greys_do_not_matter() {
         for (at, grey) in sides.pixels().into_iter().zip(&mut other) {
             *grey = if hidden(ticket.hidden_boxes(), at) { !*grey } else { *grey };
         }
-        let all_phases = if ticket.line == PERIODIC { &[][..] } else { &[OPEN_ALL, CLOSE_ALL] };
-        for operation in [&[OPEN, CLOSE], all_phases].concat() {
+        for operation in [OPEN, CLOSE] {
             ticket.operation = operation;
-            ticket.phase = if ticket.all_phases() { 0 } else { ticket.phase };
             let once = filtered(sides, &greys, &ticket, WHITE);
             assert_eq!(filtered(sides, &once, &ticket, WHITE), once, "twice is once: {ticket:?}");
             assert_eq!(filtered(sides, &other, &ticket, WHITE), once);
             for ((at, before), after) in sides.pixels().into_iter().zip(&greys).zip(&once) {
                 let covered = hidden(ticket.hidden_boxes(), at);
-                let opens = [OPEN, OPEN_ALL].contains(&operation);
-                let ordered = if opens { after <= before } else { after >= before };
+                let ordered = if operation == OPEN { after <= before } else { after >= before };
                 assert!(if covered { *after == 255 } else { ordered });
             }
         }

@@ -124,12 +124,12 @@ int main(void)
     job.source_offset = job.output_offset = OFFSET;
     job.source_stride = job.output_stride = job.width + PADDING;
     job.source_length = job.output_length = OFFSET + job.height * job.source_stride + BEHIND;
+    job.scratch_length = sotrugla_scratch_needed(job.width, job.height);
 
     uint8_t *ticket = room(job.ticket_length), *source = room(job.source_length);
     job.ticket = ticket, job.source = source;
-    take(ticket, job.ticket_length);
-    job.scratch_length = sotrugla_scratch_needed(ticket, job.ticket_length, job.width, job.height);
     job.output = room(job.output_length), job.scratch = room(job.scratch_length);
+    take(ticket, job.ticket_length);
     for (size_t row = 0; row < job.height; row++)
         take(source + OFFSET + row * job.source_stride, job.width);
     forget_hidden(source, &job);

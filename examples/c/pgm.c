@@ -56,7 +56,7 @@ int main(void)
     struct buffer file = taken(), output = {0}, scratch = {0};
     struct sotrugla_pgm shown = sotrugla_read_pgm(file.bytes, file.length);
     resize(&output, SOTRUGLA_PGM_HEADER + shown.width * shown.height);
-    resize(&scratch, sotrugla_scratch_needed(ticket, ticket_length, shown.width, shown.height));
+    resize(&scratch, sotrugla_scratch_needed(shown.width, shown.height));
 
     struct sotrugla_written answer =
         sotrugla_run_pgm(ticket, ticket_length, file.bytes, file.length, output.bytes,

@@ -78,8 +78,7 @@ int main(void)
     uint8_t head[6];
     while (list.count <= SOTRUGLA_LIST_JOBS && fread(head, 1, sizeof head, stdin) == sizeof head) {
         struct sotrugla_listed_job job = take_job(head, &tickets, &source);
-        size_t needed = sotrugla_scratch_needed(tickets.bytes + job.ticket_start, job.ticket_length,
-                                                job.width, job.height);
+        size_t needed = sotrugla_scratch_needed(job.width, job.height);
         list.scratch_length = needed > list.scratch_length ? needed : list.scratch_length;
         jobs[list.count++] = job;
     }

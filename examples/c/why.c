@@ -68,7 +68,7 @@ int main(void)
     job.ticket = ticket, job.source = pixels;
     job.source_stride = job.output_stride = job.width;
     job.output_length = job.source_length;
-    job.scratch_length = sotrugla_scratch_needed(ticket, job.ticket_length, job.width, job.height);
+    job.scratch_length = sotrugla_scratch_needed(job.width, job.height);
     forget_hidden(&job);
     /* A refused job is refused for its first pixel, even where it has none. */
     if (tell(&job, 0, 0))

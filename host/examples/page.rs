@@ -54,7 +54,7 @@ fn main() -> Result<(), Box<dyn Error>> {
     io::stdin().read_to_end(&mut input)?;
     let Job { ticket, page, tray } = read(&input).ok_or("bad input")?;
     let mut output = vec![NEIGHBOUR; tray.len()];
-    let mut scratch = vec![0; page.scratch_needed(&ticket)];
+    let mut scratch = vec![0; page.scratch_needed()];
     let answer = filter(&ticket, page, &tray, page.spot(), &mut output, &mut scratch);
     print(answer, page, &output);
     Ok(())

@@ -60,7 +60,7 @@ fn main() -> Result<(), Box<dyn Error>> {
     io::stdin().read_to_end(&mut input)?;
     let Given { pages, tray } = read(&input).ok_or("bad input")?;
     let jobs: Vec<_> = pages.iter().map(job).collect();
-    let needed = jobs.iter().map(|job| job.page.scratch_needed(job.ticket)).max();
+    let needed = jobs.iter().map(|job| job.page.scratch_needed()).max();
     let (mut output, mut scratch) = (vec![0; tray.len()], vec![0; needed.unwrap_or(0)]);
     match filter_tray(&jobs, &tray, &mut output, &mut scratch) {
         Err(refused) => print_refused(refused),

@@ -11,7 +11,7 @@
 //! let page = Page { offset: 1, width: 3, height: 1, stride: 3 };
 //! let source = [77, 9, 1, 5, 77];
 //! let mut output = [0; 3];
-//! let mut scratch = vec![0; page.scratch_needed(&ticket)];
+//! let mut scratch = vec![0; page.scratch_needed()];
 //!
 //! let work = filter(&ticket, page, &source, Spot { offset: 0, stride: 3 }, &mut output, &mut scratch)?;
 //!
@@ -22,9 +22,6 @@
 //! A whole tray is cleaned in one call: [`filter_tray`] takes a list of up to 256 such jobs, and answers each
 //! of them. A page that arrives as a raw Netpbm grey file (P5) leaves as one: [`filter_pgm`] takes the
 //! file's bytes and gives those of another.
-//!
-//! Along a slope, [`Ticket::opening_in_all_phases`] and [`Ticket::closing_in_all_phases`] order all phases of the
-//! line at once; how much scratch a page needs depends on the ticket: [`Page::scratch_needed`].
 //!
 //! And of any pixel the crate names the reason why it comes out so: [`why`], [`Page::why`] and [`why_pgm`].
 //!

@@ -89,12 +89,7 @@ extern "C" {
         answers_length: usize,
     ) -> Outcome;
 
-    pub fn sotrugla_scratch_needed(
-        ticket: *const u8,
-        ticket_length: usize,
-        width: usize,
-        height: usize,
-    ) -> usize;
+    pub fn sotrugla_scratch_needed(width: usize, height: usize) -> usize;
 
     pub fn sotrugla_read_ticket(
         ticket: *const u8,

@@ -34,27 +34,17 @@ impl Page {
         Spot { offset: self.offset, stride: self.stride }
     }
 
-    /// How many bytes of scratch the ticket's job on the page needs: a page more where it orders all
-    /// phases. 0 where a side is beyond its limits or the ticket is refused, as such a job is refused
-    /// whatever its scratch.
+    /// How many bytes of scratch a job on the page needs; 0 where a side is beyond its limits, as
+    /// such a page is refused whatever its scratch.
     ///
     /// ```
-    /// use sotrugla::{Line, Page, Ticket};
-    ///
-    /// let (page, line) = (Page::alone(16, 5), Line::connected(5, 3));
-    /// let opening = Ticket::opening(line, 7).encode();
-    /// assert_eq!(page.scratch_needed(&opening), 2 * 16 * 5 + 3 * 16);
-    /// assert_eq!(Page::alone(16, 8193).scratch_needed(&opening), 0);
-    /// let in_all_phases = Ticket::opening_in_all_phases(line, 7).encode();
-    /// assert_eq!(page.scratch_needed(&in_all_phases), 3 * 16 * 5 + 3 * 16);
-    /// assert_eq!(page.scratch_needed(&vec![].into()), 0);
+    /// use sotrugla::Page;
+    /// assert_eq!(Page::alone(16, 5).scratch_needed(), 2 * 16 * 5 + 3 * 16);
+    /// assert_eq!(Page::alone(16, 8193).scratch_needed(), 0);
     /// ```
-    pub fn scratch_needed(self, ticket: &TicketBytes) -> usize {
-        let ticket = ticket.as_bytes();
-        // SAFETY: pointer and length are one slice's, which is only read.
-        unsafe {
-            library::sotrugla_scratch_needed(ticket.as_ptr(), ticket.len(), self.width, self.height)
-        }
+    pub fn scratch_needed(self) -> usize {
+        // SAFETY: the function takes every pair of numbers and touches no memory of ours.
+        unsafe { library::sotrugla_scratch_needed(self.width, self.height) }
     }
 }
 

@@ -69,11 +69,11 @@ pub(crate) fn page_of(answer: &library::Pgm) -> Page {
 /// # Ok::<(), sotrugla::Refused>(())
 /// ```
 pub fn filter_pgm(ticket: &TicketBytes, file: &[u8]) -> Result<Written, Refused> {
+    let ticket = ticket.as_bytes();
     // Whatever is refused, the job below says so: of ticket and file it may be the ticket.
     let page = page_of(&answered(file));
     let mut output = vec![0; library::PGM_HEADER + page.width * page.height];
-    let mut scratch = vec![0; page.scratch_needed(ticket)];
-    let ticket = ticket.as_bytes();
+    let mut scratch = vec![0; page.scratch_needed()];
     // SAFETY: each pointer and length is one slice's, and a slice lent for writing overlaps no other.
     let answer = unsafe {
         library::sotrugla_run_pgm(

@@ -34,9 +34,6 @@ pub enum Reason {
     /// gives the result, and `from` the first unhidden step of the window of `through` in the first pass that
     /// gave it.
     TwoPasses { pixel: Pixel, grey: u8, phase: u16, through: Pixel, from: Pixel },
-    /// Opening and closing in all phases: `phase` is the lowest that gives the result, and `through` and `from` are
-    /// those of an opening or a closing in it.
-    AllPhases { pixel: Pixel, grey: u8, phase: u16, through: Pixel, from: Pixel },
 }
 
 impl Reason {
@@ -44,8 +41,7 @@ impl Reason {
     pub fn grey(&self) -> u8 {
         match *self {
             Reason::Hidden { white, .. } => white,
-            Reason::OnePass { grey, .. } => grey,
-            Reason::TwoPasses { grey, .. } | Reason::AllPhases { grey, .. } => grey,
+            Reason::OnePass { grey, .. } | Reason::TwoPasses { grey, .. } => grey,
         }
     }
 }
@@ -61,12 +57,11 @@ impl fmt::Display for Reason {
             Reason::OnePass { pixel, grey, from, .. } => put_decided(f, pixel, grey, from),
             Reason::TwoPasses { pixel, grey, through, from, .. } => {
                 put_decided(f, pixel, grey, from)?;
-                put_way(f, through, from)
-            }
-            Reason::AllPhases { pixel, grey, phase, through, from } => {
-                put_decided(f, pixel, grey, from)?;
-                put_way(f, through, from)?;
-                write!(f, ", in phase {phase}")
+                // The way is told unless it is `from` itself.
+                if through != from {
+                    write!(f, ", by way of {through}")?;
+                }
+                Ok(())
             }
         }
     }
@@ -81,20 +76,11 @@ fn put_decided(f: &mut fmt::Formatter, pixel: Pixel, grey: u8, from: Pixel) -> f
     }
 }
 
-/// The way is told unless it is `from` itself.
-fn put_way(f: &mut fmt::Formatter, through: Pixel, from: Pixel) -> fmt::Result {
-    if through == from {
-        return Ok(());
-    }
-    write!(f, ", by way of {through}")
-}
-
 /// Names the reason why a pixel of the page comes out as it does, without running the job. Its arguments are
 /// those of [`filter`](crate::filter), with the lengths of output and scratch in place of them, and the pixel.
 ///
 /// The refusals are those of `filter` for such a job, and then 19 for a pixel off the page. The time grows
-/// with the segment's length for erosion and dilation, with its square for opening and closing, and in all
-/// phases as much for each of them.
+/// with the segment's length for erosion and dilation, with its square for opening and closing.
 ///
 /// ```
 /// use sotrugla::{why, Line, Page, Pixel, Reason, Ticket};
@@ -104,8 +90,7 @@ fn put_way(f: &mut fmt::Formatter, through: Pixel, from: Pixel) -> fmt::Result {
 /// let tray = [77, 9, 1, 5, 7, 3, 77];
 /// let pixel = Pixel { column: 1, row: 0 };
 ///
-/// let scratch_length = page.scratch_needed(&ticket);
-/// let reason = why(&ticket, page, &tray, page.spot(), tray.len(), scratch_length, pixel)?;
+/// let reason = why(&ticket, page, &tray, page.spot(), tray.len(), page.scratch_needed(), pixel)?;
 ///
 /// let (through, from) = (Pixel { column: 2, row: 0 }, Pixel { column: 3, row: 0 });
 /// assert_eq!(reason, Reason::TwoPasses { pixel, grey: 7, phase: 0, through, from });
@@ -148,8 +133,7 @@ impl Page {
     /// ```
     pub fn why(self, ticket: &TicketBytes, source: &[u8], pixel: Pixel) -> Result<Reason, Refused> {
         // As long as the source: where the page fits there, it fits an output of that length.
-        let scratch_length = self.scratch_needed(ticket);
-        why(ticket, self, source, self.spot(), source.len(), scratch_length, pixel)
+        why(ticket, self, source, self.spot(), source.len(), self.scratch_needed(), pixel)
     }
 }
 
@@ -173,8 +157,7 @@ impl Page {
 pub fn why_pgm(ticket: &TicketBytes, file: &[u8], pixel: Pixel) -> Result<Reason, Refused> {
     let shown = pgm::answered(file);
     let page = Page { offset: shown.start as usize, ..pgm::page_of(&shown) };
-    let scratch_length = page.scratch_needed(ticket);
-    let answer = asked(ticket, page, file, page.spot(), file.len(), scratch_length, pixel);
+    let answer = asked(ticket, page, file, page.spot(), file.len(), page.scratch_needed(), pixel);
     // A refused file has sides of 0: then the ticket is refused if it is to be, and else the sides.
     let (refusal, place) = if answer.refusal == Refusal::BadSides.number() {
         (shown.refusal, shown.place)
@@ -225,10 +208,9 @@ fn told(
     pixel: Pixel,
     white: u8,
 ) -> Result<Reason, Refused> {
-    let order = ticket.read()?;
     if answer.kind == library::HIDDEN_BOX {
         let number = answer.r#box as usize;
-        return Ok(Reason::Hidden { pixel, white, number, hidden: order.boxes()[number] });
+        return Ok(Reason::Hidden { pixel, white, number, hidden: ticket.read()?.boxes()[number] });
     }
     let through =
         Pixel { column: answer.through_column as usize, row: answer.through_row as usize };
@@ -237,9 +219,6 @@ fn told(
     let phase = answer.phase as u16;
     Ok(match answer.kind {
         library::ONE_PASS => Reason::OnePass { pixel, grey, phase, from },
-        _ if order.operation().is_in_all_phases() => {
-            Reason::AllPhases { pixel, grey, phase, through, from }
-        }
         _ => Reason::TwoPasses { pixel, grey, phase, through, from },
     })
 }

@@ -1,7 +1,6 @@
 //! The refusals, each with a sentence for an operator.
 
 use crate::page::Page;
-use crate::ticket::Operation;
 use std::error::Error;
 use std::fmt;
 
@@ -30,14 +29,13 @@ pub enum Refusal {
     BadPixel = 17,
     TooManyJobs = 18,
     PixelOffPage = 19,
-    PeriodicLine = 20,
     NumbersTooFew = 100,
 }
 
 use Refusal::*;
 
 /// All of them, in the order of their numbers.
-const SENTENCES: [(Refusal, &str); 21] = [
+const SENTENCES: [(Refusal, &str); 20] = [
     (TicketEnds, "the ticket ends inside a field, or before one of its first six fields"),
     (WrongTag, "a field has another tag than the one due"),
     (WrongLength, "a field has the wrong length"),
@@ -60,10 +58,6 @@ const SENTENCES: [(Refusal, &str); 21] = [
     (BadPixel, "a pixel of the file is above its maximum, or the file has too few pixels"),
     (TooManyJobs, "the list has more than 256 jobs"),
     (PixelOffPage, "the pixel is off the page"),
-    (
-        PeriodicLine,
-        "a periodic line has no phases to take together: all phases need a connected line",
-    ),
     (NumbersTooFew, "the buffer of numbers is too short"),
 ];
 
@@ -115,26 +109,23 @@ fn placement_sentence(page: Page) -> &'static str {
 }
 
 /// A refused job, a refused list (18) or a refused question about a pixel (19). The place is the ticket's byte
-/// where the field at fault starts (refusals 1 to 9 and 20), the number of the box from 0 (14), the file's first
-/// byte at fault, or its length where it ends too soon (15 to 17), the numbers needed (100), else 0.
+/// where the field at fault starts (refusals 1 to 9), the number of the box from 0 (14), the file's first byte
+/// at fault, or its length where it ends too soon (15 to 17), the numbers needed (100), else 0.
 #[derive(Clone, Copy, Debug, PartialEq, Eq)]
 pub struct Refused {
     pub refusal: Refusal,
     pub place: u64,
-    /// For an operator: [`Refusal::sentence`], or one that says which rule a vector breaks (6), which number
-    /// of a placement or file is at fault (10), or that a phase is ordered beside all of them (9).
+    /// For an operator: [`Refusal::sentence`], or one that says which rule a vector breaks (6), or which
+    /// number of a placement or file is at fault (10).
     pub sentence: &'static str,
 }
 
 impl Refused {
-    /// As an answer to these bytes, which reach through the vector where that is refused, or the phase.
+    /// As an answer to these bytes, which reach through the vector where that is refused.
     pub(crate) fn of_ticket(mut self, ticket: &[u8]) -> Refused {
         if self.refusal == BadVector {
             let component = |at| i16::from_be_bytes([ticket[at], ticket[at + 1]]);
             self.sentence = vector_sentence(component(11), component(13));
-        }
-        if self.refusal == BadPhase && Operation::numbered(ticket[3]).is_in_all_phases() {
-            self.sentence = "the phase is not 0, as it must be where all phases are ordered";
         }
         self
     }
@@ -161,7 +152,7 @@ impl fmt::Display for Refused {
         let (number, place) = (self.refusal.number(), self.place);
         write!(f, "refused {number} at {place}: {}", self.sentence)?;
         match number {
-            1..=9 | 20 => write!(f, " (the field at byte {place} of the ticket)"),
+            1..=9 => write!(f, " (the field at byte {place} of the ticket)"),
             14 => write!(f, " (box {place}, counted from 0)"),
             15..=17 => write!(f, " (byte {place} of the file, counted from 0, or its end)"),
             100 => write!(f, " (it needs {place} numbers)"),
@@ -187,7 +178,7 @@ mod tests {
 
     #[test]
     fn sentences_stand_in_the_order_of_the_numbers() {
-        for ((refusal, sentence), number) in SENTENCES.into_iter().zip((1..=20).chain([100])) {
+        for ((refusal, sentence), number) in SENTENCES.into_iter().zip((1..=19).chain([100])) {
             assert_eq!(refusal.number(), number);
             assert_eq!(refusal.sentence(), sentence);
         }

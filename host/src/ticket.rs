@@ -4,42 +4,16 @@ use crate::library;
 use crate::refusal::{judged, Refused};
 
 /// What is done along the lines.
-///
-/// In all phases, a page is filtered in each phase of its connected line, of which there are as many as the
-/// larger of the vector's two components has in size. The line's own phase is 0 then, or the ticket is refused (9);
-/// a periodic line is refused, too (20).
 #[derive(Clone, Copy, Debug, PartialEq, Eq)]
 pub enum Operation {
     Erode = 1,
     Dilate = 2,
     Open = 3,
     Close = 4,
-    /// Pixel by pixel the lightest of the openings in all phases.
-    OpenAllPhases = 5,
-    /// Pixel by pixel the darkest of the closings in all phases.
-    CloseAllPhases = 6,
 }
 
-use Operation::*;
-
-const OPERATIONS: [Operation; 6] = [Erode, Dilate, Open, Close, OpenAllPhases, CloseAllPhases];
-
-impl Operation {
-    /// Whether it takes all phases of a connected line together.
-    ///
-    /// ```
-    /// use sotrugla::Operation;
-    /// assert!(Operation::OpenAllPhases.is_in_all_phases() && !Operation::Open.is_in_all_phases());
-    /// ```
-    pub fn is_in_all_phases(self) -> bool {
-        matches!(self, OpenAllPhases | CloseAllPhases)
-    }
-
-    /// That of a number that the proved reader did not refuse.
-    pub(crate) fn numbered(number: u8) -> Operation {
-        OPERATIONS[usize::from(number) - 1]
-    }
-}
+const OPERATIONS: [Operation; 4] =
+    [Operation::Erode, Operation::Dilate, Operation::Open, Operation::Close];
 
 /// The lines along which a page is filtered.
 ///
@@ -111,47 +85,22 @@ impl Ticket {
 
     /// An erosion with the origin in the middle of its segment.
     pub fn erosion(line: Line, length: u16) -> Ticket {
-        Ticket::centred(Erode, line, length)
+        Ticket::centred(Operation::Erode, line, length)
     }
 
     /// A dilation with the origin in the middle of its segment.
     pub fn dilation(line: Line, length: u16) -> Ticket {
-        Ticket::centred(Dilate, line, length)
+        Ticket::centred(Operation::Dilate, line, length)
     }
 
     /// An opening with the origin in the middle of its segment.
     pub fn opening(line: Line, length: u16) -> Ticket {
-        Ticket::centred(Open, line, length)
+        Ticket::centred(Operation::Open, line, length)
     }
 
     /// A closing with the origin in the middle of its segment.
     pub fn closing(line: Line, length: u16) -> Ticket {
-        Ticket::centred(Close, line, length)
-    }
-
-    /// An opening in all phases of a connected line, with the origin in the middle of its segment.
-    ///
-    /// ```
-    /// use sotrugla::{filter_pgm, Line, Refusal, Ticket};
-    ///
-    /// let file = b"P5\n3\n2\n9\n\x09\x09\x01\x01\x01\x09";
-    /// let opened = |ticket: Ticket| filter_pgm(&ticket.encode(), file).map(|written| written.file);
-    /// let in_phase_0 = opened(Ticket::opening(Line::connected(2, 1), 2))?;
-    /// assert_eq!(in_phase_0, b"P5\n3\n2\n9\n\x09\x09\x01\x01\x01\x01");
-    /// let in_all_phases = opened(Ticket::opening_in_all_phases(Line::connected(2, 1), 2))?;
-    /// assert_eq!(in_all_phases, file);
-    ///
-    /// let periodic = Ticket::opening_in_all_phases(Line::periodic(2, 1), 2);
-    /// assert_eq!(opened(periodic).unwrap_err().refusal, Refusal::PeriodicLine);
-    /// # Ok::<(), sotrugla::Refused>(())
-    /// ```
-    pub fn opening_in_all_phases(line: Line, length: u16) -> Ticket {
-        Ticket::centred(OpenAllPhases, line, length)
-    }
-
-    /// A closing in all phases of a connected line, with the origin in the middle of its segment.
-    pub fn closing_in_all_phases(line: Line, length: u16) -> Ticket {
-        Ticket::centred(CloseAllPhases, line, length)
+        Ticket::centred(Operation::Close, line, length)
     }
 
     fn centred(operation: Operation, line: Line, length: u16) -> Ticket {
@@ -228,7 +177,7 @@ impl TicketBytes {
         &self.0
     }
 
-    /// Reads the ticket alone, with refusals 1 to 9 and 20. Its boxes are not held to a page: that is for the
+    /// Reads the ticket alone, with refusals 1 to 9. Its boxes are not held to a page: that is for the
     /// job to do.
     ///
     /// ```
@@ -285,7 +234,7 @@ fn shown(numbers: &[i64; library::NUMBERS]) -> Ticket {
         height: place[3] as u16,
     };
     Ticket {
-        operation: Operation::numbered(operation as u8),
+        operation: OPERATIONS[operation as usize - 1],
         line,
         length: length as u16,
         origin: origin as u16,

@@ -32,8 +32,7 @@ pub struct TrayJob<'a> {
 ///     TrayJob { ticket: &ticket, page, spot: page.spot() }
 /// });
 /// let mut output = [0; 5];
-/// let needed = jobs.iter().map(|job| job.page.scratch_needed(job.ticket)).max();
-/// let mut scratch = vec![0; needed.unwrap_or(0)];
+/// let mut scratch = vec![0; jobs.iter().map(|job| job.page.scratch_needed()).max().unwrap_or(0)];
 ///
 /// let answers = filter_tray(&jobs, &[9, 1, 5, 7, 3], &mut output, &mut scratch)?;
 ///

@@ -28,7 +28,7 @@ const HIDDEN: HiddenBox = HiddenBox { left: 5, top: 2, width: 4, height: 3 };
 fn filtered(ticket: &TicketBytes, pixels: &[u8]) -> (Vec<u8>, u64) {
     let page = Page::alone(SIDES.0, SIDES.1);
     let mut output = vec![0; pixels.len()];
-    let mut scratch = vec![0; page.scratch_needed(ticket)];
+    let mut scratch = vec![0; page.scratch_needed()];
     let work = filter(ticket, page, pixels, page.spot(), &mut output, &mut scratch).unwrap();
     (output, work)
 }
@@ -52,22 +52,6 @@ fn a_hidden_pixel_comes_out_as_the_maximum() {
     }
     let file = file_of(SIDES, 100, &page);
     assert_eq!(filter_pgm(&ticket, &file_of(SIDES, 100, &pixels)), Ok(Written { file, work }));
-}
-
-/// The job on a tray has the scratch that its ticket needs: so it was made for the file, too.
-#[test]
-fn a_file_is_filtered_in_all_phases() {
-    let line = Line::connected(3, -1);
-    let pixels = pixels_of(SIDES, 255);
-    for ticket in [
-        Ticket::opening_in_all_phases(line, 4),
-        Ticket::closing_in_all_phases(line, 4).hide(HIDDEN),
-    ] {
-        let ticket = ticket.encode();
-        let (page, work) = filtered(&ticket, &pixels);
-        let file = file_of(SIDES, 255, &page);
-        assert_eq!(filter_pgm(&ticket, &file_of(SIDES, 255, &pixels)), Ok(Written { file, work }));
-    }
 }
 
 #[test]

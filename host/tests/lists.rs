@@ -22,8 +22,7 @@ fn opening() -> Ticket {
     Ticket::opening(Line::connected(1, 0), 2)
 }
 
-/// Tickets for small pages, some of which are refused: for a cut, a vector, a length, a box past the edge and a line
-/// without phases.
+/// Tickets for small pages, some of which are refused: for a cut, a vector, a length and a box past the edge.
 fn tickets() -> Vec<TicketBytes> {
     let past = HiddenBox { left: 2, top: 0, width: 9, height: 1 };
     let cut = opening().encode().as_bytes()[..20].to_vec();
@@ -33,8 +32,6 @@ fn tickets() -> Vec<TicketBytes> {
         Ticket::erosion(Line::periodic(0, 1), 2)
             .hide(HiddenBox { left: 0, top: 0, width: 1, height: 1 })
             .encode(),
-        Ticket::closing_in_all_phases(Line::connected(2, 1), 2).encode(),
-        Ticket::closing_in_all_phases(Line::periodic(2, 1), 2).encode(),
         opening().hide(past).encode(),
         Ticket::opening(Line::connected(2, 2), 2).encode(),
         Ticket::opening(Line::connected(1, 0), 0).encode(),
@@ -78,7 +75,7 @@ fn a_list_is_answered_as_single_calls_in_its_order() {
     }
     refusals.sort();
     refusals.dedup();
-    assert_eq!(refusals, [1, 6, 7, 10, 11, 12, 13, 14, 20]);
+    assert_eq!(refusals, [1, 6, 7, 10, 11, 12, 13, 14]);
 }
 
 #[test]

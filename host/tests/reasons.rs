@@ -45,7 +45,7 @@ fn tickets() -> Vec<TicketBytes> {
 /// The job's page, row by row.
 fn filtered(ticket: &TicketBytes, tray: &[u8]) -> Vec<u8> {
     let spot = Page::alone(PAGE.width, PAGE.height).spot();
-    let (mut output, mut scratch) = (vec![0; 35], vec![0; PAGE.scratch_needed(ticket)]);
+    let (mut output, mut scratch) = (vec![0; 35], vec![0; PAGE.scratch_needed()]);
     filter(ticket, PAGE, tray, spot, &mut output, &mut scratch).unwrap();
     output
 }
@@ -151,12 +151,11 @@ fn numbers(answer: Result<Reason, Refused>) -> (Refusal, u64) {
 fn each_refusal_has_its_place_and_order() {
     let good = Ticket::closing(Line::connected(1, 0), 3);
     let past = good.clone().hide(BOXES[0]).hide(HiddenBox { left: 6, width: 2, ..BOXES[0] });
-    let tray = tray();
+    let (tray, enough) = (tray(), PAGE.scratch_needed());
     let of = |ticket: &TicketBytes, page: Page, output, scratch| {
         numbers(why(ticket, page, &tray, PAGE.spot(), output, scratch, at(7)))
     };
     let (good, past) = (good.encode(), past.encode());
-    let enough = PAGE.scratch_needed(&good);
     assert_eq!(of(&vec![].into(), Page::alone(0, 0), 0, 0), (Refusal::TicketEnds, 0));
     assert_eq!(of(&past, Page { stride: 6, ..PAGE }, 0, 0), (Refusal::BadSides, 0));
     assert_eq!(of(&past, Page { offset: 6, ..PAGE }, 0, 0), (Refusal::SourceTooShort, 0));

@@ -79,25 +79,6 @@ fn a_file_says_that_a_side_of_its_page_is_at_fault() {
 }
 
 #[test]
-fn a_phase_beside_all_of_them_says_so() {
-    let line = Line::Connected { dx: 5, dy: 3, phase: 4 };
-    for ticket in [Ticket::opening_in_all_phases(line, 2), Ticket::closing_in_all_phases(line, 2)] {
-        let refused = ticket.encode().read().unwrap_err();
-        assert_eq!((refused.refusal, refused.place), (Refusal::BadPhase, 25));
-        assert_eq!(
-            refused.sentence,
-            "the phase is not 0, as it must be where all phases are ordered"
-        );
-        assert_eq!(filter_pgm(&ticket.encode(), b"P5 0 1 9\n"), Err(refused));
-    }
-    let refused = ticket(Line::Connected { dx: 5, dy: 3, phase: 5 }).read().unwrap_err();
-    assert_eq!(
-        (refused.refusal, refused.sentence),
-        (Refusal::BadPhase, Refusal::BadPhase.sentence())
-    );
-}
-
-#[test]
 fn any_other_refusal_says_its_own_sentence() {
     let short = placed(Page::alone(3, 1), 3);
     let ends = TicketBytes::from(vec![]).read().unwrap_err();
@@ -126,11 +107,6 @@ fn a_refusal_reads_as_a_sentence_with_its_place() {
              (the field at byte 8 of the ticket)",
         ),
         (placed(Page::alone(0, 1), 1), "refused 10 at 0: the width is not 1 to 8192"),
-        (
-            Ticket::closing_in_all_phases(Line::periodic(1, 1), 2).encode().read().unwrap_err(),
-            "refused 20 at 4: a periodic line has no phases to take together: all phases need a \
-             connected line (the field at byte 4 of the ticket)",
-        ),
         (
             read_pgm(b"P5 3 1 9\n\x01\x02").unwrap_err(),
             "refused 17 at 11: a pixel of the file is above its maximum, or the file has too few \

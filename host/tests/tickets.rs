@@ -14,8 +14,6 @@ fn a_ticket_reads_back_as_it_was_built() {
         Ticket::new(Operation::Erode, Line::periodic(255, -255), 8192).with_origin(8191),
         Ticket::new(Operation::Dilate, LINE, 1),
         Ticket::new(Operation::Close, Line::connected(0, 1), 300).with_origin(299),
-        Ticket::new(Operation::OpenAllPhases, Line::connected(-2, 5), 9),
-        Ticket::new(Operation::CloseAllPhases, Line::connected(255, -254), 8192),
     ] {
         assert_eq!(ticket.encode().read(), Ok(ticket));
     }
@@ -34,16 +32,8 @@ fn a_ticket_shows_its_parts() {
 
 #[test]
 fn a_filter_by_its_name_has_the_origin_in_the_middle() {
-    use Operation::*;
-    let operations = [Erode, Dilate, Open, Close, OpenAllPhases, CloseAllPhases];
-    let named = [
-        Ticket::erosion,
-        Ticket::dilation,
-        Ticket::opening,
-        Ticket::closing,
-        Ticket::opening_in_all_phases,
-        Ticket::closing_in_all_phases,
-    ];
+    let operations = [Operation::Erode, Operation::Dilate, Operation::Open, Operation::Close];
+    let named = [Ticket::erosion, Ticket::dilation, Ticket::opening, Ticket::closing];
     for (length, middle) in [(1, 0), (2, 1), (3, 1), (4, 2), (5, 2), (8192, 4096)] {
         let built = operations.map(|of| Ticket::new(of, LINE, length).with_origin(middle));
         assert_eq!(named.map(|ticket| ticket(LINE, length)), built);

@@ -7,8 +7,6 @@ Pillow image or another two-dimensional buffer of bytes is filtered in one call:
     >>> closing(row, along=(1, 0), length=3).tolist()
     [[255, 255, 255, 255, 255]]
 
-Along a slope, all_phases=True opens or closes in all phases of the line at once.
-
 A page that arrives as a raw Netpbm grey file (P5) leaves as one: run_pgm takes the file's bytes and gives those of
 another. And run filters one page of a tray, where pages stand side by side, into another tray:
 
@@ -40,27 +38,35 @@ where its size can be known, as on Linux, and elsewhere may end the process.
 """
 
 # Before the imports: the library is held to it as it is loaded.
-__version__ = "0.7.0"
+__version__ = "0.6.0"
 
 from .arrays import closing, dilation, erosion, opening, why_array
 from .files import Pgm, Written, read_pgm, run_pgm
 from .lists import Result, TrayJob, run_tray
-from .operations import CLOSE, CLOSE_ALL_PHASES, CONNECTED, DILATE, ERODE, OPEN, OPEN_ALL_PHASES, PERIODIC
 from .reasons import HIDDEN_BOX, ONE_PASS, TWO_PASSES, Pixel, Reason, why, why_pgm
 from .refusals import SENTENCES, Refused
-from .tickets import HiddenBox, Ticket, is_hidden, read_ticket
+from .tickets import (
+    CLOSE,
+    CONNECTED,
+    DILATE,
+    ERODE,
+    OPEN,
+    PERIODIC,
+    HiddenBox,
+    Ticket,
+    is_hidden,
+    read_ticket,
+)
 from .trays import Page, Spot, run, scratch_needed
 
 __all__ = [
     "CLOSE",
-    "CLOSE_ALL_PHASES",
     "CONNECTED",
     "DILATE",
     "ERODE",
     "HIDDEN_BOX",
     "ONE_PASS",
     "OPEN",
-    "OPEN_ALL_PHASES",
     "PERIODIC",
     "SENTENCES",
     "TWO_PASSES",

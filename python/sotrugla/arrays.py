@@ -1,4 +1,4 @@
-"""Pages as arrays and images: the filters by the names that scikit-image gives them, and the reasons of pixels.
+"""Pages as arrays and images: the four filters by the names that scikit-image gives them, and the reasons of pixels.
 
 A page is a two-dimensional numpy array of uint8, a Pillow image of mode "L", or another two-dimensional buffer of
 bytes; the answer is a new page of the same kind, or a two-dimensional memoryview for another buffer. Neither numpy nor
@@ -69,22 +69,10 @@ def opening(
     origin: Origin = "centre",
     periodic: bool = False,
     phase: int = 0,
-    all_phases: bool = False,
     hide: Boxes = (),
 ) -> Pixels:
-    """An erosion and then a dilation: light gaps shorter than the segment go. Its arguments are those of erosion, and
-    whether it is done in all phases of a connected line, of which the lightest pixels are taken: then no gap goes for
-    the column or row that it begins in.
-
-    >>> page = memoryview(bytes([9, 9, 1, 1, 1, 9])).cast("B", [2, 3])
-    >>> opening(page, along=(2, 1), length=2).tolist()
-    [[9, 9, 1], [1, 1, 1]]
-    >>> opening(page, along=(2, 1), length=2, all_phases=True).tolist()
-    [[9, 9, 1], [1, 1, 9]]
-    """
-    ticket = Ticket.opening(
-        along=along, length=length, origin=origin, periodic=periodic, phase=phase, all_phases=all_phases, hide=hide
-    )
+    """An erosion and then a dilation: light gaps shorter than the segment go. Its arguments are those of erosion."""
+    ticket = Ticket.opening(along=along, length=length, origin=origin, periodic=periodic, phase=phase, hide=hide)
     return _filtered(ticket, array)
 
 
@@ -96,14 +84,10 @@ def closing(
     origin: Origin = "centre",
     periodic: bool = False,
     phase: int = 0,
-    all_phases: bool = False,
     hide: Boxes = (),
 ) -> Pixels:
-    """A dilation and then an erosion: dark strokes shorter than the segment go. Its arguments are those of opening; in
-    all phases the darkest pixels are taken."""
-    ticket = Ticket.closing(
-        along=along, length=length, origin=origin, periodic=periodic, phase=phase, all_phases=all_phases, hide=hide
-    )
+    """A dilation and then an erosion: dark strokes shorter than the segment go. Its arguments are those of erosion."""
+    ticket = Ticket.closing(along=along, length=length, origin=origin, periodic=periodic, phase=phase, hide=hide)
     return _filtered(ticket, array)
 
 

@@ -9,7 +9,7 @@ from .lending import lent, lent_to_write
 from .library import answer
 from .refusals import HEAD, judged
 from .tickets import Ticket, bytes_of
-from .trays import scratch_lent
+from .trays import scratch_needed
 
 if typing.TYPE_CHECKING:
     from _typeshed import ReadableBuffer
@@ -62,7 +62,7 @@ def run_pgm(ticket: typing.Union[Ticket, ReadableBuffer], file: ReadableBuffer) 
         # A refused file answers 0 for its sides. The job below says what is refused: it may be the ticket.
         shown = answer("sotrugla_read_pgm", *source)
         output = bytearray(_HEADER + shown.width * shown.height)
-        scratch = bytearray(scratch_lent(order, shown.width, shown.height))
+        scratch = bytearray(scratch_needed(shown.width, shown.height))
         to_output = stack.enter_context(lent_to_write(output, "the output"))
         to_scratch = stack.enter_context(lent_to_write(scratch, "the scratch"))
         outcome = answer("sotrugla_run_pgm", *order, *source, *to_output, *to_scratch)

@@ -46,7 +46,7 @@ _BUFFER = [ctypes.c_void_p, ctypes.c_size_t]
 _FUNCTIONS: dict[str, tuple[typing.Any, list[typing.Any]]] = {
     "sotrugla_run": (Outcome, _BUFFER + [ctypes.c_size_t] * 6 + _BUFFER * 3),
     "sotrugla_run_tray": (Outcome, [ctypes.c_size_t] + _BUFFER * 6),
-    "sotrugla_scratch_needed": (ctypes.c_size_t, _BUFFER + [ctypes.c_size_t] * 2),
+    "sotrugla_scratch_needed": (ctypes.c_size_t, [ctypes.c_size_t] * 2),
     "sotrugla_read_ticket": (Outcome, _BUFFER + [ctypes.POINTER(ctypes.c_int64), ctypes.c_size_t]),
     "sotrugla_is_hidden": (ctypes.c_uint64, _BUFFER + [ctypes.c_size_t] * 2),
     "sotrugla_read_pgm": (_Pgm, _BUFFER),

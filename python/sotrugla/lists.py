@@ -11,7 +11,7 @@ from .lending import Lent, lent, lent_to_write, see_apart
 from .library import Outcome, answer
 from .refusals import HEAD, MOST_JOBS, Refused, judged, refused
 from .tickets import Ticket, bytes_of
-from .trays import Page, Places, Spot, scratch_lent
+from .trays import Page, Places, Spot, scratch_needed
 
 if typing.TYPE_CHECKING:
     from _typeshed import ReadableBuffer, WriteableBuffer
@@ -62,11 +62,10 @@ def run_tray(
     """
     listed = list(jobs)
     places = [_places(job, number) for number, job in enumerate(listed)]
+    if scratch is None:
+        scratch = bytearray(max((scratch_needed(place.width, place.height) for place in places), default=0))
     with contextlib.ExitStack() as stack:
         orders = [stack.enter_context(_order(job, number)) for number, job in enumerate(listed)]
-        if scratch is None:
-            needs = [scratch_lent(order, place.width, place.height) for order, place in zip(orders, places)]
-            scratch = bytearray(max(needs, default=0))
         tray = stack.enter_context(lent(source, "the source"))
         to_output = stack.enter_context(lent_to_write(output, "the output"))
         to_scratch = stack.enter_context(lent_to_write(scratch, "the scratch"))

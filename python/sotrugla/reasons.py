@@ -7,7 +7,6 @@ import typing
 
 from .lending import Lent, lent
 from .library import answer
-from .operations import is_in_all_phases
 from .refusals import HEAD, judged
 from .tickets import HiddenBox, Ticket, bytes_of, read_ticket
 from .trays import Page, Places, Spot
@@ -44,8 +43,7 @@ class Reason(typing.NamedTuple):
     out white, as 255 or as a file's maximum. ONE_PASS, of erosion and dilation: from_ is the first unhidden step of the
     pixel's window whose grey is the result. TWO_PASSES, of opening and closing: through is the first unhidden step of
     the pixel's window in the second pass that gives the result, and from_ the first unhidden step of the window of
-    through in the first pass that gave it. Where all_phases is true, all are ordered: phase is the lowest that gives
-    the result, and the steps are those of the pixel's line in it.
+    through in the first pass that gave it.
     """
 
     kind: int
@@ -56,7 +54,6 @@ class Reason(typing.NamedTuple):
     from_: typing.Optional[Pixel] = None
     box: typing.Optional[int] = None
     hidden: typing.Optional[HiddenBox] = None
-    all_phases: bool = False
 
     def __str__(self) -> str:
         if self.hidden is not None:
@@ -65,8 +62,7 @@ class Reason(typing.NamedTuple):
         decided = f"it is {self.grey} itself" if self.from_ == self.pixel else f"{self.from_} is {self.grey}"
         # Of two passes the way is told, unless it is from_ itself.
         way = "" if self.through in (None, self.from_) else f", by way of {self.through}"
-        phase = f", in phase {self.phase}" if self.all_phases else ""
-        return f"{self.pixel} is {self.grey} because {decided}{way}{phase}"
+        return f"{self.pixel} is {self.grey} because {decided}{way}"
 
 
 def why(
@@ -84,8 +80,7 @@ def why(
     is a Ticket or its bytes. Raises Refused: what run raises for the job, and then 19 for a pixel off the page.
 
     A spot and lengths of output and scratch that are not named are those of a job with room for both. The time grows
-    with the segment's length for erosion and dilation, with its square for opening and closing, and in all phases as
-    much for each of them.
+    with the segment's length for erosion and dilation, with its square for opening and closing.
 
     >>> ticket, page = Ticket.closing(along=(1, 0), length=3), Page(offset=1, width=5, height=1, stride=5)
     >>> reason = why(ticket, page, bytes([77, 9, 1, 5, 7, 3, 77]), column=1, row=0)
@@ -152,10 +147,9 @@ def _asked(order: Lent, places: Places, source: Lent, lengths: tuple[int, int], 
 
 def _told(found: typing.Any, order: Lent, places: Places, source: Lent, pixel: Pixel, white: int) -> Reason:
     """An answer that is no refusal: its pixels are on the page, and its box is one of the ticket's."""
-    ticket = read_ticket(order.first(order.length))
     if found.kind == HIDDEN_BOX:
-        return Reason(found.kind, pixel, white, box=found.box, hidden=ticket.boxes[found.box])
+        hidden = read_ticket(order.first(order.length)).boxes[found.box]
+        return Reason(found.kind, pixel, white, box=found.box, hidden=hidden)
     through, from_ = Pixel(found.through_column, found.through_row), Pixel(found.from_column, found.from_row)
     grey = source.byte(places.source_offset + from_.row * places.source_stride + from_.column)
-    way, all_phases = through if found.kind == TWO_PASSES else None, is_in_all_phases(ticket.operation)
-    return Reason(found.kind, pixel, grey, found.phase, way, from_, all_phases=all_phases)
+    return Reason(found.kind, pixel, grey, found.phase, through if found.kind == TWO_PASSES else None, from_)

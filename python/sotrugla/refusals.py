@@ -5,8 +5,6 @@ from __future__ import annotations
 import struct
 import typing
 
-from .operations import is_in_all_phases
-
 # By the refusals' numbers: 1 to 25 are kept for the law's, 100 is the library's own.
 SENTENCES = {
     1: "the ticket ends inside a field, or before one of its first six fields",
@@ -28,7 +26,6 @@ SENTENCES = {
     17: "a pixel of the file is above its maximum, or the file has too few pixels",
     18: "the list has more than 256 jobs",
     19: "the pixel is off the page",
-    20: "a periodic line has no phases to take together: all phases need a connected line",
     100: "the buffer of numbers is too short",
 }
 
@@ -39,9 +36,6 @@ VECTOR_SENTENCES = (
     "the vector is neither shallow (dx at least the size of dy) nor steep (dy above the size of dx)",
     "dx and dy of a connected line have a common divisor above 1",
 )
-
-# What is wrong with the phase of refusal 9 where all phases are ordered.
-PHASE_SENTENCE = "the phase is not 0, as it must be where all phases are ordered"
 
 # What is wrong with the placements of refusal 10: the first that holds.
 PLACEMENT_SENTENCES = (
@@ -70,9 +64,9 @@ class Placements(typing.NamedTuple):
 
 class Refused(Exception):
     """A refused job, a refused list (18) or a refused question about a pixel (19): its number, its place and a sentence
-    that says what was wrong. The place is the ticket's byte where the field at fault starts (1 to 9 and 20), the number
-    of the box from 0 (14), the file's first byte at fault, or its length where it ends too soon (15 to 17), the numbers
-    needed (100), else 0. Nothing was written.
+    that says what was wrong. The place is the ticket's byte where the field at fault starts (1 to 9), the number of the
+    box from 0 (14), the file's first byte at fault, or its length where it ends too soon (15 to 17), the numbers needed
+    (100), else 0. Nothing was written.
 
     >>> print(Refused(7, 15))
     refused 7 at 15: the segment length is 0 or above 8192 (the field at byte 15 of the ticket)
@@ -87,7 +81,7 @@ class Refused(Exception):
         return f"refused {self.refusal} at {self.place}: {self.sentence}{self._where()}"
 
     def _where(self) -> str:
-        if self.refusal <= 9 or self.refusal == 20:
+        if self.refusal <= 9:
             return f" (the field at byte {self.place} of the ticket)"
         if self.refusal == 14:
             return f" (box {self.place}, counted from 0)"
@@ -96,8 +90,8 @@ class Refused(Exception):
         return f" (it needs {self.place} numbers)" if self.refusal == 100 else ""
 
 
-# How many of the ticket's first bytes a sentence may be about: one is the operation, and the last 4 are the vector.
-HEAD, _OPERATION = 15, 3
+# How many of the ticket's first bytes a sentence may be about: the vector is the last 4.
+HEAD = 15
 
 
 def judged(answer: typing.Any, head: bytes = b"", placements: typing.Optional[Placements] = None) -> typing.Any:
@@ -115,8 +109,6 @@ def refused(answer: typing.Any, head: bytes, placements: typing.Optional[Placeme
     sentence = SENTENCES[answer.refusal]
     if answer.refusal == 6:
         sentence = _vector_sentence(*struct.unpack(">hh", head[-4:]))
-    if answer.refusal == 9 and is_in_all_phases(head[_OPERATION]):
-        sentence = PHASE_SENTENCE
     if answer.refusal == 10:
         sentence = _placement_sentence(placements) if placements else FILE_SENTENCE
     return Refused(answer.refusal, answer.place, sentence)

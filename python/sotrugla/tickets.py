@@ -8,12 +8,14 @@ import typing
 
 from .lending import lent
 from .library import answer
-from .operations import CLOSE, CLOSE_ALL_PHASES, CONNECTED, DILATE, ERODE, OPEN, OPEN_ALL_PHASES, PERIODIC
 from .refusals import HEAD, judged
 from .whole import placed, size, whole
 
 if typing.TYPE_CHECKING:
     from _typeshed import ReadableBuffer
+
+ERODE, DILATE, OPEN, CLOSE = 1, 2, 3, 4
+CONNECTED, PERIODIC = 1, 2
 
 # What the builders of tickets, and the filters of arrays, take by name.
 Vector = typing.Tuple[int, int]
@@ -37,10 +39,6 @@ class Ticket:
 
     Rising and falling lines are mirror images: for a page and boxes flipped top to bottom with dy negated (left to
     right with dx negated where the vector is steep), the result is the flipped result, and the work is the same.
-
-    OPEN_ALL_PHASES orders, pixel by pixel, the lightest of the openings in all phases of a connected line, of which
-    there are as many as the larger of dx and dy has in size, and CLOSE_ALL_PHASES the darkest of the closings. Then the
-    phase is 0.
 
     Whether its values are allowed is for the proved reader to say; a value that has no place in its field raises
     OverflowError at encoding, and what is no whole number TypeError.
@@ -113,13 +111,10 @@ class Ticket:
         origin: Origin = "centre",
         periodic: bool = False,
         phase: int = 0,
-        all_phases: bool = False,
         hide: Boxes = (),
     ) -> Ticket:
-        """Orders an erosion and then a dilation: light gaps shorter than the segment go. In all phases, a gap stays
-        that is long enough in one of them."""
-        operation = OPEN_ALL_PHASES if all_phases else OPEN
-        return cls._along(operation, along, length, origin, periodic, phase, hide)
+        """Orders an erosion and then a dilation: light gaps shorter than the segment go."""
+        return cls._along(OPEN, along, length, origin, periodic, phase, hide)
 
     @classmethod
     def closing(
@@ -130,13 +125,10 @@ class Ticket:
         origin: Origin = "centre",
         periodic: bool = False,
         phase: int = 0,
-        all_phases: bool = False,
         hide: Boxes = (),
     ) -> Ticket:
-        """Orders a dilation and then an erosion: dark strokes shorter than the segment go. In all phases, a stroke
-        stays that is long enough in one of them."""
-        operation = CLOSE_ALL_PHASES if all_phases else CLOSE
-        return cls._along(operation, along, length, origin, periodic, phase, hide)
+        """Orders a dilation and then an erosion: dark strokes shorter than the segment go."""
+        return cls._along(CLOSE, along, length, origin, periodic, phase, hide)
 
     @classmethod
     def _along(
@@ -210,7 +202,7 @@ _NUMBERS = 8 + 4 * 64
 
 
 def read_ticket(ticket: ReadableBuffer) -> Ticket:
-    """The ticket alone, read from its bytes. Raises Refused, 1 to 9 and 20. Its boxes are not held to a page.
+    """The ticket alone, read from its bytes. Raises Refused, 1 to 9. Its boxes are not held to a page.
 
     >>> read_ticket(Ticket(ERODE, CONNECTED, dx=3, dy=-2, length=7, origin=3).encode()).dy
     -2

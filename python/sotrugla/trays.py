@@ -31,22 +31,9 @@ class Spot(typing.NamedTuple):
     stride: int
 
 
-def scratch_needed(ticket: typing.Union[Ticket, ReadableBuffer], width: int, height: int) -> int:
-    """The bytes of scratch that a page of these sides needs for what the ticket, a Ticket or its bytes, orders: a page
-    more where that is in all phases. 0 where a side is not 1 to 8192 or the ticket is refused: such a job is refused
-    whatever its scratch.
-
-    >>> along = {"along": (5, 3), "length": 7}
-    >>> scratch_needed(Ticket.opening(**along), 16, 5), scratch_needed(Ticket.opening(**along, all_phases=True), 16, 5)
-    (208, 288)
-    """
-    with lent(bytes_of(ticket), "the ticket") as order:
-        return scratch_lent(order, size(width, "width"), size(height, "height"))
-
-
-def scratch_lent(order: Lent, width: int, height: int) -> int:
-    """As scratch_needed, where the ticket is lent already."""
-    return answer("sotrugla_scratch_needed", *order, width, height)
+def scratch_needed(width: int, height: int) -> int:
+    """The bytes of scratch that a page of these sides needs; 0 where a side is not 1 to 8192."""
+    return answer("sotrugla_scratch_needed", size(width, "width"), size(height, "height"))
 
 
 def run(
@@ -78,10 +65,10 @@ def run_lent(
 ) -> int:
     """As run, where the source is lent already."""
     places = Places.of(page, spot)
+    if scratch is None:
+        scratch = bytearray(scratch_needed(places.width, places.height))
     with contextlib.ExitStack() as stack:
         order = stack.enter_context(lent(bytes_of(ticket), "the ticket"))
-        if scratch is None:
-            scratch = bytearray(scratch_lent(order, places.width, places.height))
         to_output = stack.enter_context(lent_to_write(output, "the output"))
         to_scratch = stack.enter_context(lent_to_write(scratch, "the scratch"))
         see_apart([order, source], [to_output, to_scratch])

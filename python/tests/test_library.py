@@ -75,11 +75,11 @@ class Search(unittest.TestCase):
     def test_of_another_version(self):
         inside = self.put("python/sotrugla/libsotrugla.so")
         start = self.package / "__init__.py"
-        start.write_text(start.read_text().replace('__version__ = "0.7.0"', '__version__ = "12.34.56"'))
-        words = f"ImportError: {inside} is the library of version 0.7.0, and this package is version 12.34.56"
+        start.write_text(start.read_text().replace('__version__ = "0.6.0"', '__version__ = "12.34.56"'))
+        words = f"ImportError: {inside} is the library of version 0.6.0, and this package is version 12.34.56"
         self.assertEqual(self.imported(), words)
 
     def test_without_a_version(self):
         other = ctypes.util.find_library("c")
-        words = f"ImportError: {other} is the library of a version before 0.3.0, and this package is version 0.7.0"
+        words = f"ImportError: {other} is the library of a version before 0.3.0, and this package is version 0.6.0"
         self.assertEqual(self.imported(SOTRUGLA_LIBRARY=other), words)

@@ -5,17 +5,15 @@ import random
 import unittest
 
 import sotrugla
-from sotrugla import CLOSE, ERODE, OPEN_ALL_PHASES, PERIODIC, Page, Refused, Result, Spot, TrayJob, run_tray
+from sotrugla import CLOSE, ERODE, PERIODIC, Page, Refused, Result, Spot, TrayJob, run_tray
 
 from .jobs import ALONE, ROW, SPOT, ticket
 
-# Tickets for small pages. Some are refused: for a cut, a vector, a length, a box past the edge, a line without phases.
+# Tickets for small pages. Some are refused: for a cut, a vector, a length, a box past the edge.
 TICKETS = [
     ticket(),
     ticket(CLOSE, dx=2, dy=-1, length=3, origin=1),
     ticket(ERODE, PERIODIC, dx=0, dy=1).hide(left=0, top=0, width=1, height=1).encode(),
-    ticket(OPEN_ALL_PHASES, dx=2, dy=1),
-    ticket(OPEN_ALL_PHASES, PERIODIC, dx=2, dy=1).encode(),
     ticket().hide(left=2, top=0, width=9, height=1),
     ticket(dx=2, dy=2),
     ticket(dx=0).encode(),
@@ -59,7 +57,7 @@ class Lists(unittest.TestCase):
             self.assertEqual(listed, alone)
             refusals |= {result.refused.refusal for result in results if result.refused}
             finished += sum(result.refused is None for result in results)
-        self.assertEqual(refusals, {1, 6, 7, 10, 11, 12, 13, 14, 20})
+        self.assertEqual(refusals, {1, 6, 7, 10, 11, 12, 13, 14})
         self.assertGreater(finished, 100)
 
     def test_a_refused_job_between(self):

@@ -120,7 +120,7 @@ class Sentences(unittest.TestCase):
 
     def test_words_are_those_of_c_and_rust(self):
         """The pieces of a sentence, without what is put into them."""
-        pieces = ("is white because it is hidden by box", " because ", "itself", ", by way of", ", in phase ")
+        pieces = ("is white because it is hidden by box", " because ", "itself", ", by way of")
         for file in ("include/sotrugla.h", "host/src/reason.rs"):
             text = (ROOT / file).read_text()
             self.assertEqual([piece for piece in pieces if piece not in text], [], file)
@@ -139,7 +139,7 @@ class Refusals(unittest.TestCase):
     def test_order(self):
         """Each job has one fault more than the one before it: the first in the order of refusals is told."""
         good, past = ticket(CLOSE, length=3), ticket(CLOSE, length=3, boxes=[BOXES[0], (6, 1, 2, 1)])
-        needed, scratch = 4 * 9 + 7, sotrugla.scratch_needed(good, 7, 5)
+        needed, scratch = 4 * 9 + 7, sotrugla.scratch_needed(7, 5)
         narrow, short = PAGE._replace(stride=6), PAGE._replace(offset=6)
         job = {"spot": Spot(0, 9), "output_length": needed, "scratch_length": scratch}
         self.assertEqual(self.refused(good, PAGE, TRAY, **job), (19, 0))

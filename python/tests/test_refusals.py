@@ -31,7 +31,6 @@ class Sentences(unittest.TestCase):
             (14, 3, "a hidden box has a zero side or passes the page's edge (box 3, counted from 0)"),
             (16, 7, "the file's maximum is above 255 (byte 7 of the file, counted from 0, or its end)"),
             (18, 0, "the list has more than 256 jobs"),
-            (20, 4, f"{sotrugla.SENTENCES[20]} (the field at byte 4 of the ticket)"),
             (100, 264, "the buffer of numbers is too short (it needs 264 numbers)"),
         ]
         for refusal, place, words in cases:
@@ -92,8 +91,7 @@ class Sentences(unittest.TestCase):
             self.assertEqual(str(found), "refused 10 at 0: a side of the file's page is not 1 to 8192")
 
     def test_sentences_are_those_of_c_and_rust(self):
-        which = [*refusals.VECTOR_SENTENCES, *refusals.PLACEMENT_SENTENCES]
-        which += [refusals.FILE_SENTENCE, refusals.PHASE_SENTENCE]
+        which = [*refusals.VECTOR_SENTENCES, *refusals.PLACEMENT_SENTENCES, refusals.FILE_SENTENCE]
         for file in ("include/sotrugla.h", "host/src/refusal.rs"):
             # A long literal is continued on the next line: in C by another one, in Rust behind a backslash.
             text = re.sub(r'"\s*\n\s*"|\\\n\s*', "", (ROOT / file).read_text())

@@ -32,7 +32,7 @@ def subjects():
 
 class Sources(unittest.TestCase):
     def test_python_3_9_reads_them(self):
-        files = [*PYTHON.rglob("*.py"), *(ROOT / "examples" / "python").glob("*.py"), *(ROOT / "docs").glob("*.py")]
+        files = [*PYTHON.rglob("*.py"), *(ROOT / "examples" / "python").glob("*.py"), ROOT / "docs" / "form.py"]
         self.assertIn(PYTHON / "sotrugla" / "tickets.py", files)
         for file in files:
             ast.parse(file.read_text(), str(file), feature_version=(3, 9))

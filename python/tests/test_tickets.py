@@ -5,8 +5,8 @@ import inspect
 import unittest
 
 import sotrugla
-from sotrugla import CLOSE, CLOSE_ALL_PHASES, CONNECTED, DILATE, ERODE, OPEN, OPEN_ALL_PHASES, PERIODIC
-from sotrugla import HiddenBox, Page, Refused, Spot, Ticket, library
+from sotrugla import CLOSE, CONNECTED, DILATE, ERODE, OPEN, PERIODIC, HiddenBox, Page, Refused, Spot, Ticket
+from sotrugla import library
 
 from .jobs import installed, ticket
 
@@ -45,16 +45,6 @@ class Building(unittest.TestCase):
             wanted = ticket(operation, PERIODIC, -1, 2, 9, phase=2, boxes=[(1, 2, 3, 4), (5, 6, 7, 8)])
             self.assertEqual(built(along=(-1, 2), length=9, **more), wanted)
 
-    def test_in_all_phases(self):
-        ways = [(Ticket.opening, OPEN, OPEN_ALL_PHASES), (Ticket.closing, CLOSE, CLOSE_ALL_PHASES)]
-        for built, plain, operation in ways:
-            made = built(along=(5, 3), length=51, all_phases=True, hide=[(1, 2, 3, 4)])
-            self.assertEqual(made, ticket(operation, CONNECTED, 5, 3, 51, origin=25, boxes=[(1, 2, 3, 4)]))
-            self.assertEqual(built(along=(5, 3), length=51, all_phases=False).operation, plain)
-        for built in (Ticket.erosion, Ticket.dilation):
-            with self.assertRaises(TypeError):
-                built(along=(5, 3), length=51, all_phases=True)
-
     def test_middle(self):
         middles = [Ticket.opening(along=(1, 0), length=length).origin for length in (1, 2, 3, 4, 5, 8192)]
         self.assertEqual(middles, [0, 1, 1, 2, 2, 4096])
@@ -79,9 +69,7 @@ class Encoding(unittest.TestCase):
         for k in range(64):
             full.hide(left=k, top=1, width=2, height=65535)
         steep = ticket(DILATE, dx=-2, dy=5, length=1, phase=4)
-        all_phases = [ticket(operation, dx=-2, dy=255, length=9) for operation in (OPEN_ALL_PHASES, CLOSE_ALL_PHASES)]
-        longest = ticket(CLOSE, PERIODIC, dx=255, dy=-255, length=8192, origin=8191)
-        for built in (full, steep, longest, *all_phases):
+        for built in (full, steep, ticket(CLOSE, PERIODIC, dx=255, dy=-255, length=8192, origin=8191)):
             self.assertEqual(sotrugla.read_ticket(built.encode()), built)
 
     @unittest.skipUnless(numpy, "numpy is not installed")

@@ -56,12 +56,9 @@ class Jobs(unittest.TestCase):
         self.assertEqual(output, eroded * page.height)
 
     def test_scratch_needed(self):
-        for job in (ticket(), ticket().encode()):
-            self.assertEqual(sotrugla.scratch_needed(job, 16, 5), 2 * 16 * 5 + 3 * 16)
-            for sides in ((0, 1), (1, 0), (8193, 1), (1, 8193)):
-                self.assertEqual(sotrugla.scratch_needed(job, *sides), 0)
-        for refused in (b"", ticket(dx=0), ticket().encode()[:-1]):
-            self.assertEqual(sotrugla.scratch_needed(refused, 16, 5), 0)
+        self.assertEqual(sotrugla.scratch_needed(16, 5), 2 * 16 * 5 + 3 * 16)
+        for sides in ((0, 1), (1, 0), (8193, 1), (1, 8193)):
+            self.assertEqual(sotrugla.scratch_needed(*sides), 0)
 
 
 class Refusals(unittest.TestCase):
@@ -85,7 +82,7 @@ class Refusals(unittest.TestCase):
         self.assertEqual(self.refused(b""), (1, 0))
         self.assertEqual(self.refused(self.changed(4, 9)), (2, 4))
         self.assertEqual(self.refused(self.changed(6, 2)), (3, 4))
-        self.assertEqual(self.refused(ticket(operation=7)), (4, 0))
+        self.assertEqual(self.refused(ticket(operation=5)), (4, 0))
         self.assertEqual(self.refused(many), (5, 30 + 64 * 11))
         self.assertEqual(self.refused(ticket(dx=2, dy=2)), (6, 8))
         self.assertEqual(self.refused(ticket(length=8193)), (7, 15))
@@ -131,7 +128,7 @@ class Slips(unittest.TestCase):
             with self.assertRaisesRegex(error, sentence):
                 sotrugla.run(ticket(), page, ROW, spot, bytearray(3))
         with self.assertRaisesRegex(OverflowError, "^height is -1, "):
-            sotrugla.scratch_needed(ticket(), 1, -1)
+            sotrugla.scratch_needed(1, -1)
 
     @unittest.skipUnless(numpy, "numpy is not installed")
     def test_numbers_of_numpy(self):
@@ -139,7 +136,7 @@ class Slips(unittest.TestCase):
         page = Page(offset=numpy.uint8(0), width=three, height=numpy.int64(1), stride=three)
         sotrugla.run(ticket(), page, ROW, Spot(offset=numpy.int8(1), stride=three), output)
         self.assertEqual(list(output), [0, 1, 1, 5])
-        self.assertEqual(sotrugla.scratch_needed(ticket(), three, three), 27)
+        self.assertEqual(sotrugla.scratch_needed(three, three), 27)
 
     def test_page_and_spot_exchanged(self):
         with self.assertRaisesRegex(TypeError, "^the page is a Page, and its place in the output a Spot$"):

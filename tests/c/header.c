@@ -39,13 +39,10 @@ static void see_bytes(void)
 static void see_tickets(void)
 {
     const int vectors[][2] = {{1, 0}, {0, 1}, {1, 1}, {2, -1}, {-1, 2}, {255, -254}, {-254, 255}};
-    for (int operation = SOTRUGLA_ERODE; operation <= SOTRUGLA_CLOSE_ALL_PHASES; operation++) {
-        /* In all phases no line but a connected one is allowed. */
-        int last = operation <= SOTRUGLA_CLOSE ? SOTRUGLA_PERIODIC : SOTRUGLA_CONNECTED;
-        for (int line = SOTRUGLA_CONNECTED; line <= last; line++)
+    for (int operation = SOTRUGLA_ERODE; operation <= SOTRUGLA_CLOSE; operation++)
+        for (int line = SOTRUGLA_CONNECTED; line <= SOTRUGLA_PERIODIC; line++)
             for (size_t k = 0; k < sizeof vectors / sizeof *vectors; k++)
                 see_read_back(sotrugla_centred(operation, line, vectors[k][0], vectors[k][1], 7));
-    }
     struct sotrugla_ticket ticket = sotrugla_centred(SOTRUGLA_CLOSE, SOTRUGLA_CONNECTED, -2, 255, 8192);
     ticket.origin = 8191, ticket.phase = 254;
     see_read_back(ticket);
@@ -231,8 +228,7 @@ static void see_other_sentences(void)
     SEE(same(sotrugla_sentence(SOTRUGLA_NUMBERS_TOO_FEW), "the buffer of numbers is too short"));
     SEE(same(sotrugla_sentence(SOTRUGLA_TOO_MANY_JOBS), "the list has more than 256 jobs"));
     SEE(same(sotrugla_sentence(SOTRUGLA_PIXEL_OFF_PAGE), "the pixel is off the page"));
-    SEE(same(sotrugla_sentence(SOTRUGLA_BAD_PHASE), "the phase is not allowed"));
-    SEE(same(sotrugla_sentence(21), "unknown refusal"));
+    SEE(same(sotrugla_sentence(20), "unknown refusal"));
 }
 
 static void see_version(void)

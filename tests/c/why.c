@@ -43,7 +43,7 @@ static struct sotrugla_job job_of(const struct sotrugla_ticket *order)
     job.width = WIDTH, job.height = HEIGHT;
     job.source = tray, job.source_length = sizeof tray, job.source_offset = OFFSET, job.source_stride = STRIDE;
     job.output_length = PIXELS, job.output_stride = WIDTH;
-    job.scratch_length = sotrugla_scratch_needed(ticket, job.ticket_length, WIDTH, HEIGHT);
+    job.scratch_length = sotrugla_scratch_needed(WIDTH, HEIGHT);
     return job;
 }
 

@@ -2,32 +2,26 @@
 
 use super::draft::{self, Draft};
 use crate::random::Random;
-use crate::ticket::{HiddenBox, BOX_PLACES, BOX_TAG, CONNECTED, OPEN, PERIODIC};
+use crate::ticket::{HiddenBox, BOX_PLACES, BOX_TAG, CONNECTED, PERIODIC};
 
 /// Components about the limits; `i16::MIN` is 0x8000, whose absolute value is no i16.
 const COMPONENTS: [i16; 11] = [i16::MIN, -256, -255, -2, -1, 0, 1, 2, 254, 255, 256];
 
 pub fn ticket(random: &mut Random, mut draft: Draft, width: u16, height: u16) -> Vec<u8> {
-    match random.below(10) {
-        0 => draft.operation = random.pick(&[0, 1, 4, 7, 255]),
+    match random.below(9) {
+        0 => draft.operation = random.pick(&[0, 1, 4, 5, 255]),
         1 => draft.line = random.pick(&[0, 3, 255]),
-        2..=3 => {
-            vector(random, &mut draft);
-            if draft.all_phases() && draft.walks_too_far(width, height) {
-                draft.operation = OPEN;
-            }
-        }
+        2..=3 => vector(random, &mut draft),
         4 => segment_and_origin(random, &mut draft),
         5 => phase(random, &mut draft),
-        6 => all_phases(random, &mut draft, width, height),
-        7..=8 => box_values(random, &mut draft, width, height),
+        6..=7 => box_values(random, &mut draft, width, height),
         _ => return box_counts(random, draft, width, height),
     }
     draft.bytes()
 }
 
 pub fn vector(random: &mut Random, draft: &mut Draft) {
-    draft.line = if draft.all_phases() { CONNECTED } else { random.pick(&[CONNECTED, PERIODIC]) };
+    draft.line = random.pick(&[CONNECTED, PERIODIC]);
     let small = [(0, 0), (0, 1), (1, 0), (0, -1), (-1, 2), (2, -2), (2, 2), (-1, 1)];
     let large = [(255, 255), (256, 1), (1, 256), (255, -254), (-254, 255), (i16::MIN, 1)];
     let any = (random.pick(&COMPONENTS), random.pick(&COMPONENTS));
@@ -46,14 +40,6 @@ pub fn phase(random: &mut Random, draft: &mut Draft) {
     let largest = draft.dx.unsigned_abs().max(draft.dy.unsigned_abs());
     let limit = if draft.line == CONNECTED { largest } else { 1 };
     draft.phase = random.pick(&[limit - 1, limit, limit + 1, 65535]);
-}
-
-/// An operation of all phases with what only an operation of one phase may have: a phase that the
-/// vector allows, a periodic line, or both.
-pub fn all_phases(random: &mut Random, draft: &mut Draft, width: u16, height: u16) {
-    draft.order_all_phases(random, width, height);
-    draft.phase = draft::phase(random, CONNECTED, draft.dx, draft.dy);
-    draft.line = random.pick(&[CONNECTED, PERIODIC]);
 }
 
 /// One or two boxes with a zero side, at an edge or past one, anywhere in the list.

@@ -2,14 +2,7 @@
 
 use crate::random::Random;
 use crate::ticket::{HiddenBox, BOX_PLACES, BOX_TAG, LARGEST_COMPONENT, LONGEST_SEGMENT};
-use crate::ticket::{CLOSE, CLOSE_ALL, CONNECTED, DILATE, ERODE, OPEN, OPEN_ALL, PERIODIC};
-
-/// Drafts take vectors with components up to one of these, small ones oftener than by chance.
-const COMPONENTS: [i64; 7] = [1, 3, 3, 5, 5, 20, LARGEST_COMPONENT];
-/// All phases are walked one by one, so a large page has few of them (phases times pixels), and short
-/// windows.
-const MOST_WALKED: i64 = 60_000;
-const LARGE_PAGE: i64 = 1000;
+use crate::ticket::{CLOSE, CONNECTED, DILATE, ERODE, OPEN, PERIODIC};
 
 /// A ticket before it is written out; nothing keeps its values within the limits.
 #[derive(Clone, Debug, PartialEq, Eq)]
@@ -27,15 +20,6 @@ pub struct Draft {
 impl Draft {
     /// A draft that is accepted on a page of these sides, which are within the limits.
     pub fn valid(random: &mut Random, width: u16, height: u16) -> Draft {
-        let mut draft = Draft::of_one_phase(random, width, height);
-        if random.one_in(3) {
-            draft.order_all_phases(random, width, height);
-        }
-        draft
-    }
-
-    /// Such a draft with an operation of one phase.
-    pub fn of_one_phase(random: &mut Random, width: u16, height: u16) -> Draft {
         let line = random.pick(&[CONNECTED, PERIODIC]);
         // On a page of one row or column only the vector along it has long lines.
         let along = if height == 1 { (1, 0) } else { (0, 1) };
@@ -46,34 +30,6 @@ impl Draft {
         let (origin, phase) = (origin(random, length), phase(random, line, dx, dy));
         let boxes = boxes(random, width, height);
         Draft { operation, line, dx, dy, length, origin, phase, boxes }
-    }
-
-    /// Makes the operation one of all phases, and line, vector and phase such as it allows.
-    pub fn order_all_phases(&mut self, random: &mut Random, width: u16, height: u16) {
-        let pixels = i64::from(width) * i64::from(height);
-        let most = if random.one_in(16) { LARGEST_COMPONENT } else { random.pick(&[3, 5, 5, 20]) };
-        let most = most.min(MOST_WALKED / pixels).max(1);
-        (self.dx, self.dy) = vector_up_to(random, CONNECTED, most);
-        // An axis or a diagonal has but one phase, so it is drawn once more.
-        if self.dx.abs().max(self.dy) == 1 {
-            (self.dx, self.dy) = vector_up_to(random, CONNECTED, most);
-        }
-        self.operation = random.pick(&[OPEN_ALL, CLOSE_ALL]);
-        (self.line, self.phase) = (CONNECTED, 0);
-        if pixels > LARGE_PAGE {
-            self.length = self.length.min(100);
-            self.origin = self.origin.min(self.length - 1);
-        }
-    }
-
-    pub fn all_phases(&self) -> bool {
-        [OPEN_ALL, CLOSE_ALL].contains(&self.operation)
-    }
-
-    /// Whether all phases of this vector are too many for a page of these sides.
-    pub fn walks_too_far(&self, width: u16, height: u16) -> bool {
-        let k = i64::from(self.dx.unsigned_abs().max(self.dy.unsigned_abs()));
-        k * i64::from(width) * i64::from(height) > MOST_WALKED
     }
 
     /// The fields, each with its head.
@@ -124,15 +80,10 @@ fn side(random: &mut Random, most: i64) -> u16 {
     random.between(1, most) as u16
 }
 
+/// An allowed vector in any octant, the axes and the diagonals oftener than by chance.
 pub fn vector(random: &mut Random, line: u8) -> (i16, i16) {
-    let most = random.pick(&COMPONENTS);
-    vector_up_to(random, line, most)
-}
-
-/// An allowed vector in any octant, the axes and the diagonals oftener than by chance, and so the
-/// largest component.
-fn vector_up_to(random: &mut Random, line: u8, most: i64) -> (i16, i16) {
-    let mut long = if random.one_in(4) { most } else { random.between(1, most) };
+    let most = random.pick(&[1, 3, 3, 5, 5, 20, LARGEST_COMPONENT]);
+    let mut long = random.between(1, most);
     let mut short = match random.below(8) {
         0 => 0,
         1 => long,

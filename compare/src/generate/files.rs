@@ -7,7 +7,6 @@ use crate::file_job::{written_length, FileJob};
 use crate::pgm::{self, Header};
 use crate::placement::scratch_needed;
 use crate::random::Random;
-use crate::ticket::{self, Ticket};
 
 /// A job on a file, and by name what is odd about it.
 #[derive(Clone, Debug, PartialEq, Eq)]
@@ -32,12 +31,11 @@ const SMALL_CUT: &str = "small file cut";
 const HIGH_PIXEL_HIDDEN: &str = "pixel above the maximum under a box";
 const SHORT_OUTPUT: &str = "output one byte short";
 const SHORT_SCRATCH: &str = "scratch one byte short";
-const SCRATCH_OF_ONE_PHASE: &str = "scratch for one phase, all phases";
 
 /// Every name there is, and the answers a file may meet that has no other; each once.
 pub fn kinds() -> Vec<(&'static str, &'static [u8])> {
     let made = [(LONG_PAGE, &[0][..]), (SMALL_CUT, &[0, 15, 16, 17]), (HIGH_PIXEL_HIDDEN, &[17])];
-    let short = [(SHORT_OUTPUT, &[0][..]), (SHORT_SCRATCH, &[0]), (SCRATCH_OF_ONE_PHASE, &[0])];
+    let short = [(SHORT_OUTPUT, &[0][..]), (SHORT_SCRATCH, &[0])];
     let odd = HARMLESS.iter().chain(&FLAWS).map(|&(name, answers, _)| (name, answers));
     let mut all: Vec<_> = odd.chain(made).chain(short).collect();
     all.dedup_by_key(|(name, _)| *name);
@@ -112,9 +110,7 @@ fn lent(
     let drafted = Header { width, height, maximum: 255, start: 0 };
     let header = pgm::read(&file).unwrap_or(drafted);
     let mut output_length = written_length(&header) as usize + random.pick(&[0, 0, 1, 17]);
-    let order = ticket::shown(&ticket).1;
-    let needed = |ticket: &Ticket| scratch_needed(ticket, width, height) as usize;
-    let mut scratch_length = needed(&order) + random.pick(&[0, 0, 1, 17]);
+    let mut scratch_length = scratch_needed(width, height) as usize + random.pick(&[0, 0, 1, 17]);
     if random.one_in(12) {
         output_length = written_length(&header) as usize - 1;
         kinds.push(SHORT_OUTPUT);
@@ -122,11 +118,8 @@ fn lent(
         output_length = random.index(output_length);
     }
     if random.one_in(12) {
-        scratch_length = needed(&order) - 1;
+        scratch_length = scratch_needed(width, height) as usize - 1;
         kinds.push(SHORT_SCRATCH);
-    } else if order.all_phases() && random.one_in(12) {
-        scratch_length = needed(&Ticket::zero());
-        kinds.push(SCRATCH_OF_ONE_PHASE);
     }
     let (output, scratch) = (random.bytes(output_length), random.bytes(scratch_length));
     MadeFile { job: FileJob { ticket, file, output, scratch }, kinds }

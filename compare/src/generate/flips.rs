@@ -19,7 +19,7 @@ pub fn pair(random: &mut Random) -> [Job; 2] {
         (draft.bytes(), width, height)
     };
     let job = jobs::lent(random, ticket, width, height);
-    let elsewhere = jobs::lent(random, job.ticket.clone(), width, height);
+    let elsewhere = jobs::lent(random, Vec::new(), width, height);
     let flipped = flip::flipped(&job, elsewhere);
     [job, flipped]
 }
@@ -32,6 +32,5 @@ pub fn set_ties(random: &mut Random, draft: &mut Draft) {
     let minor = random.pick(&(1 - major..major).filter(allowed).collect::<Vec<i16>>());
     (draft.dx, draft.dy) = random.pick(&[(major, minor), (minor, major)]);
     draft.line = CONNECTED;
-    let phase = draft::phase(random, CONNECTED, draft.dx, draft.dy);
-    draft.phase = if draft.all_phases() { 0 } else { phase };
+    draft.phase = draft::phase(random, CONNECTED, draft.dx, draft.dy);
 }

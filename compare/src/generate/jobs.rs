@@ -4,7 +4,6 @@ use super::{inputs, ticket_for, Draft, Make};
 use crate::job::Job;
 use crate::placement::{scratch_needed, Placement, LONGEST_STRIDE};
 use crate::random::Random;
-use crate::ticket::{self, Ticket};
 
 pub fn job(random: &mut Random) -> Job {
     let mut job = fitting_job(random);
@@ -37,8 +36,7 @@ pub fn lent(random: &mut Random, ticket: Vec<u8>, width: u16, height: u16) -> Jo
     let (width, height) = (u64::from(width), u64::from(height));
     let (source_page, source_length) = placed(random, width, height);
     let (output_page, output_length) = placed(random, width, height);
-    let needed = scratch_needed(&ticket::shown(&ticket).1, width, height) as usize;
-    let scratch_length = needed + random.pick(&[0, 0, 1, 17]);
+    let scratch_length = scratch_needed(width, height) as usize + random.pick(&[0, 0, 1, 17]);
     Job {
         ticket,
         width,
@@ -64,7 +62,7 @@ pub fn long_ticket(random: &mut Random) -> (Vec<u8>, u16, u16) {
         (draft.dx, draft.dy) = if across { (1, 0) } else { (0, 1) };
         draft.phase = 0;
     }
-    if few > 1 || !random.one_in(4) {
+    if few > 1 || random.one_in(2) {
         // Each pixel walks up to L steps in this reading; all of L only on a single line.
         draft.length = draft.length.min(500);
         draft.origin = draft.origin.min(draft.length - 1);
@@ -96,7 +94,7 @@ fn flaw(random: &mut Random, job: &mut Job) {
     match random.below(12) {
         0 => shorten(&mut job.source, &[1], random),
         1 => shorten(&mut job.output, &[1], random),
-        2 => shorten_scratch(random, job),
+        2 => shorten(&mut job.scratch, &[1, 18], random),
         3 => job.source_offset = huge,
         4 => job.output_offset = huge,
         5 => {
@@ -111,18 +109,6 @@ fn flaw(random: &mut Random, job: &mut Job) {
         9 => job.source.clear(),
         10 => job.ticket.truncate(random.index(job.ticket.len() + 1)),
         _ => job.ticket.extend([7, 0, 8, 255, 255, 0, 0, 0, 2, 0, 1]),
-    }
-}
-
-/// One byte too few where there was nothing to spare, or about as many as one phase needs, which is
-/// too few for all of them. Another flaw may have made a side huge.
-fn shorten_scratch(random: &mut Random, job: &mut Job) {
-    let sound = job.pages().iter().all(Placement::within_limits);
-    if sound && random.one_in(3) {
-        let needed = scratch_needed(&Ticket::zero(), job.width, job.height) as usize;
-        job.scratch.truncate(needed + random.index(2));
-    } else {
-        shorten(&mut job.scratch, &[1, 18], random);
     }
 }
 

@@ -39,7 +39,7 @@ pub fn ticket_list(seed: u64, first: u64, end: u64) -> TicketList {
 /// A line sample in bytes: kind, dx, dy, phase, width, height.
 pub fn number_input(random: &mut Random) -> Vec<u8> {
     let (mut width, mut height) = number_sides(random);
-    let mut draft = Draft::of_one_phase(random, width, height);
+    let mut draft = Draft::valid(random, width, height);
     let most = LARGEST_COMPONENT as i16 / draft.dx.abs().max(draft.dy);
     if draft.line == CONNECTED && random.one_in(4) {
         // A ticket would refuse a common divisor; here it is allowed.

@@ -8,8 +8,7 @@ use crate::lines::{Lines, Pixel, Way};
 use crate::placement::{scratch_needed, Placement};
 use crate::random::Random;
 use crate::reason::Question;
-use crate::ticket::{self, HiddenBox, Ticket};
-use crate::ticket::{BOX_PLACES, CLOSE, CLOSE_ALL, ERODE, OPEN, PERIODIC};
+use crate::ticket::{self, HiddenBox, BOX_PLACES, CLOSE, ERODE, OPEN, PERIODIC};
 
 pub fn question(random: &mut Random) -> Question {
     let fitting = random.below(12) < 7;
@@ -55,10 +54,8 @@ fn fitting_job(random: &mut Random) -> Job {
         let (width, height) = sides(random);
         (ticket(random, width, height), width, height)
     };
-    // Where greys are few, most phases give the same.
-    let any_greys = if ticket::shown(&ticket).1.all_phases() { 2 } else { 6 };
     let mut job = jobs::lent(random, ticket, width, height);
-    if !random.one_in(any_greys) {
+    if !random.one_in(6) {
         job.source = few_greys(random, job.source.len());
     }
     job
@@ -83,14 +80,11 @@ fn ticket(random: &mut Random, width: u16, height: u16) -> Vec<u8> {
     let mut draft = Draft::valid(random, width, height);
     let any = draft.operation;
     draft.operation = random.pick(&[any, any, OPEN, CLOSE]);
-    if random.one_in(3) {
-        draft.order_all_phases(random, width, height);
-    }
     // On a single row or column a sloping line has but one step.
     match random.below(6) {
         _ if width == 1 || height == 1 => {}
         0..=1 => flips::set_ties(random, &mut draft),
-        2..=3 if !draft.all_phases() => set_small_period(random, &mut draft),
+        2..=3 => set_small_period(random, &mut draft),
         _ => {}
     }
     if !random.one_in(3) {
@@ -144,7 +138,7 @@ fn around(random: &mut Random, place: u16, side: u16) -> (u16, u16) {
 }
 
 /// One to four greys, in runs or mixed, black and white among them oftener than by chance.
-pub fn few_greys(random: &mut Random, count: usize) -> Vec<u8> {
+fn few_greys(random: &mut Random, count: usize) -> Vec<u8> {
     let number = random.pick(&[1, 2, 2, 3, 3, 3, 4]);
     let mut greys = random.bytes(number);
     if random.one_in(3) {
@@ -159,12 +153,11 @@ pub fn few_greys(random: &mut Random, count: usize) -> Vec<u8> {
 }
 
 /// Gives the page's lightest grey, or its darkest for an erosion or a closing, to about as many
-/// steps of a line, in any phase that the operation goes over, as a segment has, the opposite one to
-/// the step before them, and asks about one of them. Segments that begin before such a stroke have
-/// its grey too, yet give another; and where it begins in a box, a hidden step has it.
+/// steps of a line as a segment has, the opposite one to the step before them, and asks about one of
+/// them. Segments that begin before such a stroke have its grey too, yet give another; and where it
+/// begins in a box, a hidden step has it.
 fn plant_stroke(random: &mut Random, job: &mut Job) -> (u64, u64) {
     let (ticket, page) = (ticket::shown(&job.ticket).1, job.source_page());
-    let ticket = random.pick(&ticket.in_each_phase().collect::<Vec<Ticket>>());
     let mut first = random.pick(&page.sides().pixels());
     if ticket.count > 0 && random.one_in(3) {
         let HiddenBox { left, top, .. } = random.pick(ticket.hidden_boxes());
@@ -172,7 +165,7 @@ fn plant_stroke(random: &mut Random, job: &mut Job) -> (u64, u64) {
     }
     let mut greys = page.greys(&job.source);
     greys.sort();
-    if ![ERODE, CLOSE, CLOSE_ALL].contains(&ticket.operation) {
+    if ![ERODE, CLOSE].contains(&ticket.operation) {
         greys.reverse();
     }
     let walk = |way| Lines::of(&ticket).walk(page.sides(), first, way);
@@ -224,13 +217,10 @@ fn off_page(random: &mut Random, job: &Job) -> (u64, u64) {
 }
 
 /// Output tray and scratch are not lent, so any lengths may be said: as long as a number can be,
-/// such as look short in 32 bits, one byte too few, or as much scratch as one phase needs. Asked
-/// only of pages within the limits.
+/// such as look short in 32 bits, or one byte too few. Asked only of pages within the limits.
 fn say_lengths(random: &mut Random, question: &mut Question) {
     let [source, output] = question.pages();
     let long = random.pick(&[u64::MAX, u64::MAX, 1 << 63, 1 << 32]);
-    let order = ticket::shown(&question.ticket).1;
-    let needed = |ticket: &Ticket| scratch_needed(ticket, output.width, output.height) as u64;
     match random.below(8) {
         0 => question.output_length = long,
         1 => question.scratch_length = long,
@@ -242,7 +232,7 @@ fn say_lengths(random: &mut Random, question: &mut Question) {
             question.output_length = u64::MAX;
         }
         5 => question.output_length = (output.end() - 1) as u64,
-        6 => question.scratch_length = random.pick(&[needed(&order) - 1, needed(&Ticket::zero())]),
+        6 => question.scratch_length = (scratch_needed(output.width, output.height) - 1) as u64,
         _ => question.source.truncate((source.end() - 1) as usize),
     }
 }

@@ -4,7 +4,6 @@
 use super::{ticket_for, Make};
 use crate::placement::{scratch_needed, Placement, LONGEST_STRIDE};
 use crate::random::Random;
-use crate::ticket;
 use crate::tray::Listed;
 
 /// A ticket without boxes, and each box field.
@@ -140,9 +139,8 @@ impl ListDraft {
     /// Enough scratch for every job, or for some of them only.
     pub fn scratch_length(&self, random: &mut Random) -> usize {
         let sound = self.jobs.iter().filter(|job| sound_sides(job));
-        let ticket = |job: &Listed| ticket::shown(job.ticket(&self.tickets)).1;
-        let needed = sound.map(|job| scratch_needed(&ticket(job), job.width, job.height) as usize);
-        let needed: Vec<usize> = needed.collect();
+        let needed: Vec<usize> =
+            sound.map(|job| scratch_needed(job.width, job.height) as usize).collect();
         let most = needed.iter().copied().max().unwrap_or(0);
         let one = if needed.is_empty() { 0 } else { random.pick(&needed) };
         let spare = random.pick(&[0, 0, 1, 17]);

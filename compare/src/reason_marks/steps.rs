@@ -195,8 +195,7 @@ fn shown(question: &Question, ticket: &Ticket, reason: &Reason) -> Shown {
     shown
 }
 
-/// The marks of a question, given with its ticket in the phase that is named; one that names no step
-/// has the same by name, and none of them holds.
+/// The marks of a question; one that names no step has the same by name, and none of them holds.
 pub fn marks(question: &Question, ticket: &Ticket, reason: &Reason) -> Vec<(String, bool)> {
     let names_a_step = [ONE_PASS, TWO_PASSES].contains(&reason.kind);
     let shown = if names_a_step { shown(question, ticket, reason) } else { Shown::default() };

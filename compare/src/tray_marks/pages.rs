@@ -2,24 +2,16 @@
 
 use super::{pairs, Answered, Mark};
 use crate::placement::{scratch_needed, Placement};
-use crate::refusal::SCRATCH_TOO_SHORT;
-use crate::ticket::{self, Ticket};
 use crate::tray::{self, Call, Outcome, ANSWERS};
 
 /// What lies where in the output tray, whose bytes win there, and what scratch jobs need.
-pub fn marks(call: &Call, outcome: &Outcome, all: &[Answered]) -> [Mark; 9] {
+pub fn marks(call: &Call, outcome: &Outcome, all: &[Answered]) -> [Mark; 7] {
     let backwards = tray::run(&reversed(call, all)).output;
     let differs = |byte: usize| outcome.output[byte] != backwards[byte];
     let done = || pairs(all).filter(|(one, two)| one.done() && two.done());
     let page = |a: &Answered| a.job.output_page();
     let same = || pairs(all).filter(|(one, two)| page(one) == page(two));
-    let ticket = |a: &Answered| ticket::shown(a.job.ticket(&call.tickets)).1;
-    let needed_for = |t: &Ticket, a: &Answered| scratch_needed(t, a.job.width, a.job.height);
-    let needed = |a: &Answered| needed_for(&ticket(a), a);
-    let enough_for_one = |a: &Answered| {
-        let one_phase = needed_for(&Ticket::zero(), a);
-        a.refusal == SCRATCH_TOO_SHORT && one_phase <= call.scratch.len() as u128
-    };
+    let needed = |a: &Answered| scratch_needed(a.job.width, a.job.height);
     [
         ("output pages overlap", done().any(|(one, two)| shared(page(one), page(two)))),
         ("output page in another's padding", done().any(|(one, two)| meshed(page(one), page(two)))),
@@ -32,8 +24,6 @@ pub fn marks(call: &Call, outcome: &Outcome, all: &[Answered]) -> [Mark; 9] {
         ),
         ("refused where a job finished before", same().any(|(one, two)| one.done() && !two.done())),
         ("a later job needs less scratch", done().any(|(one, two)| needed(one) > needed(two))),
-        ("all phases finished", all.iter().any(|a| a.done() && ticket(a).all_phases())),
-        ("scratch for one phase, all phases", all.iter().any(enough_for_one)),
         ("all jobs refused", all.len() > 1 && !all.iter().any(Answered::done)),
     ]
 }

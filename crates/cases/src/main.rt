@@ -1,10 +1,9 @@
-// Runs the small pages of document 01 through the job, cases 1 to 15, case 12 flipped as document 02, wish 2, has it,
-// and its page opened and closed in all phases as wish 6 has it. It prints a line for each job: `case N: done W:
-// PIXELS`, rows parted by ` / `, or `case N: refused R at P`. Where a case has several jobs, words behind its number
-// tell them apart. `stdout` holds what the documents say, and work that they do not state is counted by the rule; but
-// the lines of cases 1, 8, 10 and 11 and of the short tray had been seen from this program before they were stored. The
-// same cases stand apart from it in the proved table (worked/specs/Cases.antt) and in the tests of the second program
-// (compare/tests/small_cases.rs, flips.rs, phases.rs).
+// Runs the small pages of document 01 through the job, cases 1 to 15, and case 12 flipped as document 02, wish 2, has
+// it, and prints a line for each job: `case N: done W: PIXELS`, rows parted by ` / `, or `case N: refused R at P`.
+// Where a case has several jobs, a word behind its number tells them apart. `stdout` holds what the documents say, and
+// work that they do not state is counted by the rule; but the lines of cases 1, 8, 10 and 11 and of the short tray had
+// been seen from this program before they were stored. The same cases stand apart from it in the proved table
+// (worked/specs/Cases.antt) and in the tests of the second program (compare/tests/small_cases.rs, flips.rs).
 mod form;
 mod text;
 
@@ -23,16 +22,12 @@ const OPEN: u8 = 3;
 
 const CLOSE: u8 = 4;
 
-const OPEN_IN_ALL: u8 = 5;
-
-const CLOSE_IN_ALL: u8 = 6;
-
 // Runs the job of a ticket's first bytes on a page of rows of three pixels, which fills its output tray, and prints
 // the answer.
 fn run(name: &[u8], bytes: [u8; 41], size: usize, source: &[u8], height: usize, output: &mut [u8])
     requires { size ≤ 41 }
 {
-    let mut scratch = [0u8; 36];
+    let mut scratch = [0u8; 27];
     let placements = Placements {
         width: 3,
         height: height,
@@ -109,22 +104,6 @@ fn cases_on_the_square() {
     square(b"12", ticket(DILATE, form::connected(2, 1, 0), 2, 1));
     square(b"13", ticket(DILATE, form::connected(2, 1, 1), 2, 1));
     flipped_square(b"12 flipped", ticket(DILATE, form::falling_by_one(2), 2, 1));
-    square(
-        b"12 opened in all phases",
-        ticket(OPEN_IN_ALL, form::connected(2, 1, 0), 2, 1),
-    );
-    square(
-        b"12 closed in all phases",
-        ticket(CLOSE_IN_ALL, form::connected(2, 1, 0), 2, 1),
-    );
-    square(
-        b"13 opened in all phases",
-        ticket(OPEN_IN_ALL, form::connected(2, 1, 1), 2, 1),
-    );
-    square(
-        b"11 opened in all phases",
-        ticket(OPEN_IN_ALL, form::periodic(1, 1), 3, 1),
-    );
 }
 
 fn cases_at_the_limits() {

@@ -18,8 +18,6 @@ use Rattle.demands.proofs.ListAnswers as told
 use Rattle.demands.proofs.WhyAnswers as asked
 use Rattle.demands.proofs.Why as why
 use Rattle.demands.proofs.WhyReach as nearby
-use Rattle.unions.proofs.Union as union
-use Rattle.unions.proofs.UnionMoved as moved
 
 pub demands : Demands
 demands =
@@ -38,9 +36,6 @@ demands =
       finished_work = work.finished_work;
       finished_one_pass = work.finished_one_pass;
       finished_two_passes = work.finished_two_passes;
-      all_phases_sum = work.all_phases_sum;
-      all_phases_work_lem = work.all_phases_work_lem;
-      finished_all_phases = work.finished_all_phases;
       same_answer = same.same_answer;
       same_number = same.same_number;
       same_place = same.same_place;
@@ -79,7 +74,6 @@ demands =
       file_hidden = files.file_hidden;
       file_work = files.file_work;
       file_one_pass = files.file_one_pass;
-      file_all_phases = files.file_all_phases;
       file_same = files.file_same;
       file_reach = files.file_reach;
       file_page_alone = files.file_page_alone;
@@ -115,13 +109,7 @@ demands =
       why_dilation = why.why_dilation;
       why_opening = why.why_opening;
       why_closing = why.why_closing;
-      why_opening_in_all = why.why_opening_in_all;
-      why_closing_in_all = why.why_closing_in_all;
       why_same = asked.why_same;
       why_same_refused = asked.why_same_refused;
       why_reach = nearby.why_reach;
-      union_opening = union.union_opening;
-      union_closing = union.union_closing;
-      union_one = union.union_one;
-      union_moved = moved.union_moved;
     }

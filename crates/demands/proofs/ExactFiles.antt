@@ -89,7 +89,7 @@ module _ (width height maximum : ℕ) where
         ap (λ (found : Header). finished_with found.maximum t (source_page (places_of found)) (headed front tray) c r)
         header_is
         ∙ finished_same t p (headed front tray) tray c r
-        (λ i phase c' r' near shows. headed_behind front tray (byte_of p c' r') (page_behind c' r'))
+        (λ c' r' near shows. headed_behind front tray (byte_of p c' r') (page_behind c' r'))
         maximum
         ok
 

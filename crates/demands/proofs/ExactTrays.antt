@@ -32,7 +32,7 @@ use Rattle.job.specs.Job.{finished_with}
 use Rattle.job.specs.Laws.{line_sound}
 use Rattle.demands.specs.Near.{major_place, minor_place, step_at, FewerSteps, Near}
 use Rattle.demands.specs.Exact.{OpensOrCloses, Clear, ClearSteps}
-use Rattle.unions.proofs.Pages.{seen_in, along_in, finished_at, seen_there}
+use Rattle.demands.proofs.Pages.{seen_in, along_in, finished_at, seen_there}
 use Rattle.demands.proofs.Near.{near_in, near_step}
 use Rattle.demands.proofs.ExactNumbers.{winner, winner_small, picked_small, twice, run, run_small, changed}
 use Rattle.demands.proofs.ExactNumbers.{changed_at, changed_else}

@@ -21,7 +21,7 @@ use Rattle.fields.specs.Fields.{origin_in, phase_in, field_end}
 use Rattle.fields.specs.Vectors.{divided, coprime, vector_allowed, phase_allowed}
 use Rattle.ticket.specs.Boxes.{box_at, boxes_from, boxes_in}
 use Rattle.ticket.specs.Judging.{judge_head, judge_size, judge_field, operation_known, line_known, is_periodic}
-use Rattle.ticket.specs.Judging.{length_allowed, origin_allowed, takes_all_phases, line_taken, phase_taken}
+use Rattle.ticket.specs.Judging.{length_allowed, origin_allowed}
 use Rattle.ticket.specs.Judging.{judge_operation, judge_line, judge_vector, judge_length, judge_origin, judge_phase, judge_box}
 use Rattle.ticket.specs.Judging.{judged}
 use Rattle.ticket.specs.Judging as ticket
@@ -33,7 +33,7 @@ use Rattle.placement.specs.declared.Placements.{Placements}
 use Rattle.tray.specs.Turned.{down_of, across_of}
 use Rattle.filter.specs.Seen.{runs_steep}
 use Rattle.filter.specs.Filters.{dilation_back}
-use Rattle.filter.specs.Work.{charged, charged_at, pass_work, erosion_work, dilation_work, opening_work, work_of}
+use Rattle.filter.specs.Work.{charged, charged_at, pass_work, erosion_work, dilation_work, work_of}
 use Rattle.job.specs.Order.{line_of, segment_of}
 use Rattle.judging.specs.Pages.{pages_of}
 use Rattle.judging.specs.Judging.{judge_sides, judge_source, judge_output, judge_scratch, judge_page_boxes_from}
@@ -79,15 +79,14 @@ unfolding small
 opening_bytes = small_bytes opening refl
 
 opening_done : answer opening row sizes ≡ Done 6
-unfolding answer job_work judge_places judge_sides judge_source judge_output judge_scratch judge_page_boxes judge_page_boxes_from
-    unless ◌then◌ box_allowed source_page output_page side_allowed allowed fits scratch_needed pages_of work_of erosion_work
-    dilation_work opening_work pass_work charged_at charged dilation_back runs_steep line_of segment_of boxes_of shallow steep
-    major_of minor_of nearest D shift period profile place landing step_of major_at within in_page count behind ahead
-    rightward leftward resulting total byte_at number_at signed16 signed_at operation_in line_in dx_in dy_in length_in origin_in
-    phase_in field_end box_at boxes_from boxes_in judge_head judge_size judge_field operation_known line_known is_periodic
-    takes_all_phases line_taken phase_taken divided coprime vector_allowed length_allowed origin_allowed phase_allowed
-    judge_operation judge_line judge_vector judge_length judge_origin judge_phase judge_box ticket.judge_boxes judged shown
-    box_places
+unfolding answer job_work judge_places judge_sides judge_source judge_output judge_scratch judge_page_boxes judge_page_boxes_from unless
+    ◌then◌ box_allowed source_page output_page side_allowed allowed fits scratch_needed pages_of work_of erosion_work
+    dilation_work pass_work charged_at charged dilation_back runs_steep line_of segment_of boxes_of shallow steep major_of
+    minor_of nearest D shift period profile place landing step_of major_at within in_page count behind ahead rightward
+    leftward resulting total byte_at number_at signed16 signed_at operation_in line_in dx_in dy_in length_in origin_in phase_in
+    field_end box_at boxes_from boxes_in judge_head judge_size judge_field operation_known line_known is_periodic divided coprime
+    vector_allowed length_allowed origin_allowed phase_allowed judge_operation judge_line judge_vector judge_length judge_origin
+    judge_phase judge_box ticket.judge_boxes judged shown box_places
 opening_done = refl
 
 -- the middle pixel stands at step 1

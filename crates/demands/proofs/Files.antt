@@ -2,7 +2,7 @@
 -- Assumes nothing.
 use mathlib.Core.Path.{◌≡◌, refl, sym, ap, ap₂, ◌∙◌, subst}
 use mathlib.Core.List.{List}
-use Prim.Native.Nat.{ℕ, ◌+◌, ◌-◌, ◌*◌, ◌≤◌, ◌<◌}
+use Prim.Native.Nat.{ℕ, ◌*◌, ◌≤◌, ◌<◌}
 use native.Mathlib.Omega.{arith}
 use lib.ListN.{length, get_or}
 use Rattle.refusal.specs.Answer.{is_done, whenDone}
@@ -16,9 +16,7 @@ use Rattle.placement.specs.declared.Placement.{Placement}
 use Rattle.tray.specs.Laws.{cleared_above, cleared_below, length_cleared}
 use Rattle.pgm.specs.Reading.{judged}
 use Rattle.pgm.specs.declared.Header.{Header}
-use Rattle.job.specs.Order.{ticket_in}
 use Rattle.job.specs.Job.{finished_with, job_work, lengths}
-use Rattle.job.specs.Laws.{phases_in}
 use Rattle.judging.specs.Pages.{job_scratch}
 use Rattle.judging.specs.Judging.{judge_places}
 use Rattle.judging.specs.declared.Lengths.{Lengths}
@@ -30,7 +28,6 @@ use Rattle.demands.specs.Files.{source_of, SameRead, FileRefusedOutput, FileRefu
 use Rattle.demands.specs.Files.{FileRefusedWork, FileOutputKept, FileOutputLength, FileScratchZero}
 use Rattle.demands.specs.Files.{FileScratchKept, FileScratchLength}
 use Rattle.demands.specs.Files.{FileReadsBack, FilePageBack, FileHidden, FileWork, FileOnePass, FileSame}
-use Rattle.demands.specs.Files.{FileAllPhases}
 use Rattle.demands.specs.Files.{FileReach, FilePageAlone}
 use Rattle.demands.specs.Reach.{AgreeNear, AgreeOnPage}
 use Rattle.demands.specs.Same.{SameLengths}
@@ -38,7 +35,7 @@ use Rattle.demands.proofs.Near.{near_in}
 use Rattle.demands.proofs.Reach.{finished_same, finished_hidden}
 use Rattle.demands.proofs.Same.{same_lengths}
 use Rattle.demands.proofs.Untouched.{when-either, not_done, no_work}
-use Rattle.demands.proofs.Work.{one_pass_work, two_pass_work, all_phases_work_lem}
+use Rattle.demands.proofs.Work.{one_pass_work, two_pass_work}
 
 -- ---- what is written
 
@@ -116,23 +113,16 @@ file_hidden ticket file out scratch work done c r c_in r_in hid =
     ∙ finished_hidden (header file).maximum (shown ticket) (source_of file) file c r hid
 
 pub file_work : FileWork
-file_work ticket file n work done few =
+file_work ticket file n work done =
     let worked = (files.finished_file ticket file n work done).worked in
     subst (λ (k : ℕ). k ≤ 6 * ((header file).width * (header file).height)) worked
-    (two_pass_work (shown ticket) (header file).width (header file).height few)
+    (two_pass_work (shown ticket) (header file).width (header file).height)
 
 pub file_one_pass : FileOnePass
 file_one_pass ticket file n work done one =
     let worked = (files.finished_file ticket file n work done).worked in
     subst (λ (k : ℕ). k ≤ 3 * ((header file).width * (header file).height)) worked
     (one_pass_work (shown ticket) (header file).width (header file).height one)
-
-pub file_all_phases : FileAllPhases
-file_all_phases ticket file n work done all =
-    let worked = (files.finished_file ticket file n work done).worked in
-    let k : ℕ = phases_in (shown ticket) in
-    subst (λ (q : ℕ). q ≤ (6 * k + (k - 1)) * ((header file).width * (header file).height)) worked
-    (all_phases_work_lem (shown ticket) (header file).width (header file).height all)
 
 -- ---- what answers and pixels depend on
 
@@ -184,6 +174,6 @@ pub file_page_alone : FilePageAlone
 unfolding source_page places_of AgreeNear AgreeOnPage
 file_page_alone ticket file file' out out' scratch scratch' work bytes read same done agree c r c_in r_in =
     file_reach ticket file file' out out' scratch scratch' work bytes read same done c r c_in r_in
-    (λ i phase c' r' near shows.
-    let there = near_in (ticket_in (shown ticket) i) (source_of file) c r c' r' near in
+    (λ c' r' near shows.
+    let there = near_in (shown ticket) (source_of file) c r c' r' near in
     agree c' r' there.0 there.1 shows)

@@ -1,33 +1,29 @@
 -- The flip along the axes of a line: a page with its minor axis mirrored, filtered along the flipped line.
 -- Assumes nothing.
-use mathlib.Core.Path.{◌≡◌, refl, sym, ap, ap₂, fun_ext, subst, ◌∙◌}
+use mathlib.Core.Path.{◌≡◌, refl, sym, ap, ap₂, fun_ext, ◌∙◌}
 use mathlib.Core.Bool.{Bool, true, false, ◌||◌, cond}
 use mathlib.Core.Logic.{◌⊎◌, ⊎_elim}
 use mathlib.Core.Option.{Option, none, some}
-use Prim.Native.Nat.{ℕ, suc, ◌+◌, ◌-◌, ◌*◌, ◌<◌}
+use Prim.Native.Nat.{ℕ, suc, ◌+◌, ◌-◌, ◌<◌}
 use native.Mathlib.Omega.{arith}
 use lib.Dec.{leb, eqb}
 use Rattle.vectors.specs.Vector.{shallow, steep}
-use Rattle.geometry.specs.Line.{landing, step_of, major_at, in_phase}
+use Rattle.geometry.specs.Line.{landing, step_of, major_at}
 use Rattle.geometry.specs.Number.{in_page}
 use Rattle.geometry.specs.Drift.{mirrored}
 use Rattle.geometry.specs.Flip.{flipped}
-use Rattle.geometry.specs.Laws.{in_page_landing, out_of_page, flipped_steep, flipped_major, flipped_step}
+use Rattle.geometry.specs.Laws.{in_page_landing, out_of_page, flipped_steep, flipped_step}
 use Rattle.geometry.specs.Laws.{flipped_major_at, flipped_landing, flipped_in_page, flipped_behind, flipped_ahead}
 use Rattle.geometry.specs.declared.Line.{Line}
 use Rattle.runs.specs.Scratch.{total}
 use Rattle.filter.specs.Seen.{View, runs_steep}
 use Rattle.filter.specs.Filters.{extreme, value_at, on_line, in_window, pass_at, pass, eroded, dilation_back, dilated}
-use Rattle.filter.specs.Filters.{opened, closed, segment_in, phases_of, in_all_phases, opened_in_all, closed_in_all}
-use Rattle.filter.specs.Filters.{erosion, dilation, opening, closing, opening_in_all, closing_in_all, operated}
+use Rattle.filter.specs.Filters.{opened, closed, erosion, dilation, opening, closing, operated}
 use Rattle.filter.specs.Absence.{pass_off}
-use Rattle.filter.specs.Laws.{extreme_same}
 use Rattle.filter.specs.Sums.{total_same, total_mirrored}
-use Rattle.filter.specs.Work.{charged, charged_at, pass_work, erosion_work, dilation_work, opening_work, closing_work}
-use Rattle.filter.specs.Work.{all_phases_work, work_of}
+use Rattle.filter.specs.Work.{charged, charged_at, pass_work, erosion_work, dilation_work, work_of}
 use Rattle.filter.specs.Engine.{Absent}
 use Rattle.filter.specs.declared.Segment.{Segment}
-use Rattle.demands.proofs.Windows.{extreme_none}
 
 -- a line that a ticket may order
 abbrev pub Runs : Line → Type 0
@@ -119,17 +115,13 @@ module _ (l : Line) (e : Runs l) (H W : ℕ) where
       ∙ total_same (λ (m : ℕ). charged_at (flipped l) H W L a M (mirrored true W m)) (charged_at l H W L a M) 0 W
       (λ m lo hi. charged_flipped L a M m (omega arith))))
 
--- ---- one phase
+-- ---- the four operations
 
 either_mirrors :
     (H W : ℕ) (b : Bool) (one two one' two' : View) → Mirrors H W one one' → Mirrors H W two two'
     → Mirrors H W (cond b one two) (cond b one' two')
 either_mirrors H W true one two one' two' h k = h
 either_mirrors H W false one two one' two' h k = k
-
-either_same : (b : Bool) {x y x' y' : ℕ} → x ≡ x' → y ≡ y' → cond b x y ≡ cond b x' y'
-either_same true h k = h
-either_same false h k = k
 
 none_mirrors : (H W : ℕ) → Mirrors H W (λ (M m : ℕ). none) (λ (M m : ℕ). none)
 none_mirrors H W =
@@ -152,134 +144,37 @@ module _ (s : Segment) (e : Runs s.line) where
     dilated_mirrors page page' mirrors =
         pass_mirrors s.line e H W false (dilation_back s) s.length page page' mirrors
 
-    opened_mirrors :
-        (page page' : View) → Mirrors H W page page' → Mirrors H W (opened s page) (opened (flipped_segment s) page')
-    unfolding opened
-    opened_mirrors page page' mirrors = dilated_mirrors _ _ (eroded_mirrors page page' mirrors)
-
-    closed_mirrors :
-        (page page' : View) → Mirrors H W page page' → Mirrors H W (closed s page) (closed (flipped_segment s) page')
-    unfolding closed
-    closed_mirrors page page' mirrors = eroded_mirrors _ _ (dilated_mirrors page page' mirrors)
+    pub operated_mirrors :
+        (n : ℕ) (page page' : View) → Mirrors H W page page'
+        → Mirrors H W (operated n s page) (operated n (flipped_segment s) page')
+    unfolding operated opened closed
+    operated_mirrors n page page' mirrors =
+        let eroding = eroded_mirrors page page' mirrors in
+        let dilating = dilated_mirrors page page' mirrors in
+        either_mirrors H W (eqb n erosion) _ _ _ _ eroding
+        (either_mirrors H W (eqb n dilation) _ _ _ _ dilating
+        (either_mirrors H W (eqb n opening) _ _ _ _ (dilated_mirrors _ _ eroding)
+        (either_mirrors H W (eqb n closing) _ _ _ _ (eroded_mirrors _ _ dilating) (none_mirrors H W))))
 
   pub steep_same : runs_steep (flipped s.line) ≡ runs_steep s.line
   unfolding runs_steep
   steep_same = flipped_steep s.line e
 
-  pass_flipped :
-      (w h a : ℕ)
-      → pass_work (flipped s.line) (cond (runs_steep (flipped s.line)) h w)
-      (cond (runs_steep (flipped s.line)) w h) s.length a
-      ≡ pass_work s.line (cond (runs_steep s.line) h w) (cond (runs_steep s.line) w h) s.length a
-  pass_flipped w h a =
-      ap (λ (b : Bool). pass_work (flipped s.line) (cond b h w) (cond b w h) s.length a) steep_same
-      ∙ pass_work_flipped s.line e (cond (runs_steep s.line) h w) (cond (runs_steep s.line) w h) s.length a
-
-  erosion_flipped : (w h : ℕ) → erosion_work (flipped_segment s) w h ≡ erosion_work s w h
-  unfolding erosion_work
-  erosion_flipped w h = pass_flipped w h s.origin
-
-  dilation_flipped : (w h : ℕ) → dilation_work (flipped_segment s) w h ≡ dilation_work s w h
-  unfolding dilation_work dilation_back
-  dilation_flipped w h = pass_flipped w h (s.length - 1 - s.origin)
-
-  opening_flipped : (w h : ℕ) → opening_work (flipped_segment s) w h ≡ opening_work s w h
-  unfolding opening_work
-  opening_flipped w h = ap₂ ◌+◌ (erosion_flipped w h) (dilation_flipped w h)
-
-  closing_flipped : (w h : ℕ) → closing_work (flipped_segment s) w h ≡ closing_work s w h
-  unfolding closing_work
-  closing_flipped w h = ap₂ ◌+◌ (dilation_flipped w h) (erosion_flipped w h)
-
--- ---- all phases
-
--- the phases of the flipped line are the same numbers
-phases_flipped : (s : Segment) → Runs s.line → phases_of (flipped_segment s) ≡ phases_of s
-unfolding phases_of
-phases_flipped s e = flipped_major s.line e
-
-module _ (s : Segment) (e : Runs s.line) where
-  -- and flipped in a phase it is the flipped line in that phase
-  in_phase_lem : (i : ℕ) → flipped_segment (segment_in s i) ≡ segment_in (flipped_segment s) i
-  unfolding segment_in in_phase flipped
-  in_phase_lem i = refl
-
-  runs_in : (i : ℕ) → Runs (segment_in s i).line
-  unfolding segment_in in_phase
-  runs_in i = e
-
-  module _ (H W : ℕ) (filter : Segment → View → View)
-      (each :
-      (s : Segment) → Runs s.line → (page page' : View) → Mirrors H W page page'
-      → Mirrors H W (filter s page) (filter (flipped_segment s) page'))
-      (page page' : View) (mirrors : Mirrors H W page page') where
-    -- a filter flipped in each phase
-    phase_mirrors : (i : ℕ) → Mirrors H W (filter (segment_in s i) page) (filter (segment_in (flipped_segment s) i) page')
-    phase_mirrors i =
-        subst (λ (s' : Segment). Mirrors H W (filter (segment_in s i) page) (filter s' page')) (in_phase_lem i)
-        (each (segment_in s i) (runs_in i) page page' mirrors)
-
-    -- is flipped in all of them
-    all_mirrors : (low : Bool)
-        → Mirrors H W (in_all_phases low filter s page) (in_all_phases low filter (flipped_segment s) page')
-    unfolding in_all_phases
-    all_mirrors low =
-        record {
-          off = record {
-            below = λ M m h. extreme_none low _ (λ i. (phase_mirrors i).off.below M m h) 0 _;
-            beside = λ M m h. extreme_none low _ (λ i. (phase_mirrors i).off.beside M m h) 0 _;
-          };
-          off' = record {
-            below = λ M m h. extreme_none low _ (λ i. (phase_mirrors i).off'.below M m h) 0 _;
-            beside = λ M m h. extreme_none low _ (λ i. (phase_mirrors i).off'.beside M m h) 0 _;
-          };
-          there = λ M m h.
-              ap (λ (k : ℕ).
-              extreme low (λ (i : ℕ). filter (segment_in (flipped_segment s) i) page' M (mirrored true W m)) 0 k)
-              (phases_flipped s e)
-              ∙ extreme_same low
-              (λ (i : ℕ). filter (segment_in (flipped_segment s) i) page' M (mirrored true W m))
-              (λ (i : ℕ). filter (segment_in s i) page M m) 0 (phases_of s)
-              (λ i lo hi. (phase_mirrors i).there M m h);
-        }
-
-  all_work_flipped :
-      (work : Segment → ℕ → ℕ → ℕ)
-      → ((s : Segment) → Runs s.line → (w h : ℕ) → work (flipped_segment s) w h ≡ work s w h)
-      → (w h : ℕ) → all_phases_work work (flipped_segment s) w h ≡ all_phases_work work s w h
-  unfolding all_phases_work
-  all_work_flipped work each w h =
-      ap
-      (λ (k : ℕ). total (λ (i : ℕ). work (segment_in (flipped_segment s) i) w h) 0 k + (k - 1) * (w * h))
-      (phases_flipped s e)
-      ∙ ap (λ (sum : ℕ). sum + (phases_of s - 1) * (w * h))
-      (total_same (λ (i : ℕ). work (segment_in (flipped_segment s) i) w h) (λ (i : ℕ). work (segment_in s i) w h) 0
-      (phases_of s)
-      (λ i lo hi.
-      ap (λ (s' : Segment). work s' w h) (sym (in_phase_lem i)) ∙ each (segment_in s i) (runs_in i) w h))
-
-  -- ---- the operations
-
-  pub operated_mirrors :
-      (H W n : ℕ) (page page' : View) → Mirrors H W page page'
-      → Mirrors H W (operated n s page) (operated n (flipped_segment s) page')
-  unfolding operated opened_in_all closed_in_all
-  operated_mirrors H W n page page' mirrors =
-      either_mirrors H W (eqb n erosion) _ _ _ _ (eroded_mirrors s e H W page page' mirrors)
-      (either_mirrors H W (eqb n dilation) _ _ _ _ (dilated_mirrors s e H W page page' mirrors)
-      (either_mirrors H W (eqb n opening) _ _ _ _ (opened_mirrors s e H W page page' mirrors)
-      (either_mirrors H W (eqb n closing) _ _ _ _ (closed_mirrors s e H W page page' mirrors)
-      (either_mirrors H W (eqb n opening_in_all) _ _ _ _
-      (all_mirrors H W opened (λ s e. opened_mirrors s e H W) page page' mirrors false)
-      (either_mirrors H W (eqb n closing_in_all) _ _ _ _
-      (all_mirrors H W closed (λ s e. closed_mirrors s e H W) page page' mirrors true) (none_mirrors H W))))))
-
   pub work_flipped : (n w h : ℕ) → work_of n (flipped_segment s) w h ≡ work_of n s w h
-  unfolding work_of
-  work_flipped n w h =
-      either_same (eqb n erosion) (erosion_flipped s e w h)
-      (either_same (eqb n dilation) (dilation_flipped s e w h)
-      (either_same (eqb n opening) (opening_flipped s e w h)
-      (either_same (eqb n closing) (closing_flipped s e w h)
-      (either_same (eqb n opening_in_all) (all_work_flipped opening_work opening_flipped w h)
-      (either_same (eqb n closing_in_all) (all_work_flipped closing_work closing_flipped w h) refl)))))
+  unfolding work_of erosion_work dilation_work dilation_back
+  work_flipped n w h = ap₂ (λ (x y : ℕ). all x y) (same s.origin) (same (s.length - 1 - s.origin))
+    where
+      all : ℕ → ℕ → ℕ
+      all x y =
+          cond (eqb n erosion) x
+          (cond (eqb n dilation) y (cond (eqb n opening) (x + y) (cond (eqb n closing) (y + x) 0)))
+
+      same : (a : ℕ)
+          → pass_work (flipped s.line) (cond (runs_steep (flipped s.line)) h w)
+          (cond (runs_steep (flipped s.line)) w h) s.length a
+          ≡ pass_work s.line (cond (runs_steep s.line) h w) (cond (runs_steep s.line) w h) s.length a
+      same a =
+          ap (λ (b : Bool). pass_work (flipped s.line) (cond b h w) (cond b w h) s.length a) steep_same
+          ∙ pass_work_flipped s.line e (cond (runs_steep s.line) h w) (cond (runs_steep s.line) w h)
+          s.length
+          a

@@ -13,7 +13,7 @@ use Rattle.fields.specs.Fields.{origin_in, phase_in, field_end}
 use Rattle.fields.specs.Vectors.{divided, coprime, vector_allowed, phase_allowed}
 use Rattle.ticket.specs.Boxes.{box_at, boxes_from, boxes_in}
 use Rattle.ticket.specs.Judging.{judge_head, judge_size, judge_field, operation_known, line_known, is_periodic}
-use Rattle.ticket.specs.Judging.{length_allowed, origin_allowed, takes_all_phases, line_taken, phase_taken}
+use Rattle.ticket.specs.Judging.{length_allowed, origin_allowed}
 use Rattle.ticket.specs.Judging.{judge_operation, judge_line, judge_vector, judge_length, judge_origin, judge_phase, judge_box}
 use Rattle.ticket.specs.Judging.{judge_boxes, judged}
 use Rattle.ticket.specs.Reading.{box_places, shown}
@@ -37,9 +37,9 @@ falling = ticket (255 ∷ 255 ∷ []) 2
 
 both_read : map judged (rising ∷ falling ∷ []) ≡ Done 0 ∷ Done 0 ∷ []
 unfolding unless ◌then◌ shallow steep byte_at number_at signed16 signed_at operation_in line_in dx_in dy_in length_in origin_in
-    phase_in field_end judge_head judge_size judge_field operation_known line_known is_periodic takes_all_phases line_taken
-    phase_taken divided coprime vector_allowed length_allowed origin_allowed phase_allowed judge_operation judge_line
-    judge_vector judge_length judge_origin judge_phase judge_box judge_boxes judged
+    phase_in field_end judge_head judge_size judge_field operation_known line_known is_periodic divided coprime vector_allowed
+    length_allowed origin_allowed phase_allowed judge_operation judge_line judge_vector judge_length judge_origin judge_phase
+    judge_box judge_boxes judged
 both_read = refl
 
 falling_flips_rising : FlippedTicket 3 3 (shown rising) (shown falling)

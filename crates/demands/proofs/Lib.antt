@@ -1,6 +1,7 @@
 -- The proofs of the statements in specs/. Demands names the proof of each.
 pub mod Demands
 -- laws of lines, of the two axes and of the page in a tray
+mod Pages
 mod Near
 -- the answer, the trays and the work
 mod Same

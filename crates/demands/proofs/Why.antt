@@ -5,7 +5,7 @@ use mathlib.Core.Path.{◌≡◌, refl, sym, ap, ap₂, ◌∙◌, subst}
 use mathlib.Core.Bool.{Bool, true, false, not, ◌&&◌, cond, and-eq-true_iff}
 use mathlib.Core.List.{List}
 use mathlib.Core.Option.{Option, none, some, some-injective, none-ne-some}
-use Prim.Native.Nat.{ℕ, ◌≤◌, ◌<◌}
+use Prim.Native.Nat.{ℕ, ◌<◌}
 use native.Mathlib.Omega.{arith}
 use borrow.Author.Tests.{ltb-true, not-true}
 use lib.Dec.{ltb}
@@ -30,22 +30,19 @@ use Rattle.filter.specs.Filters as filters
 use Rattle.filter.specs.Filters.{value_at, on_line, pass, operated, or_white, erosion, dilation, opening, closing}
 use Rattle.filter.specs.Engine.{back_of}
 use Rattle.filter.specs.Laws.{InWindow, Found, pass_absent, pass_some, pass_found}
-use Rattle.filter.specs.Phases.{each_phase}
-use Rattle.job.specs.Order.{line_of, segment_of, ticket_in, white}
+use Rattle.job.specs.Order.{line_of, segment_of, white}
 use Rattle.job.specs.Job.{finished, lengths}
 use Rattle.job.specs.Laws.{finished_allowed, line_sound, output_pixel}
 use Rattle.nearby.specs.declared.Pixel.{Pixel}
 use Rattle.why.specs.Laws as laws
 use Rattle.why.specs.Named as named
 use Rattle.why.specs.Named.{Once, Twice, NamedStep, along_of, beside_of, first_seen}
-use Rattle.why.specs.Phases as phases
-use Rattle.why.specs.Reason.{seen_by, by_steps, phase_giving}
+use Rattle.why.specs.Reason.{seen_by, by_steps}
 use Rattle.why.specs.declared.Reason.{Reason}
 use Rattle.demands.specs.Near.{major_place, minor_place}
 use Rattle.demands.specs.Why.{told_of, came_out, Gives, Names, ByOnePass, ByTwoPasses}
 use Rattle.demands.specs.Why.{NamesOne, Unhidden, ordering, WhyErosion, WhyDilation, WhyOpening, WhyClosing}
-use Rattle.demands.specs.Why.{LowestPhase, WhyOpeningInAll, WhyClosingInAll}
-use Rattle.unions.proofs.Pages.{seen_in, finished_at, seen_there}
+use Rattle.demands.proofs.Pages.{seen_in, finished_at, seen_there}
 
 -- ---- a page by its axes, and by column and row
 
@@ -195,12 +192,6 @@ unfolding back_of segment_of filters.dilation_back
 back_below t ok true = ok.origin_below
 back_below t ok false = omega (arith, ok.origin_below)
 
--- the windows are the same in every phase
-back_in : (t : Ticket) (i : ℕ) (low : Bool) → back_of (segment_of (ticket_in t i)) low ≡ back_of (segment_of t) low
-unfolding back_of segment_of ticket_in filters.dilation_back
-back_in t i true = refl
-back_in t i false = refl
-
 module _ (t : Ticket) (p : Placement) (tray : List ℕ) (c r : ℕ) where
   abbrev line : Line
   line = line_of t
@@ -330,14 +321,7 @@ module _ (ticket : List ℕ) (p : Placements) (source out scratch : List ℕ) (a
   came_out_lem =
       output_pixel ticket p source out scratch h.work h.done at.column at.row h.on.column h.on.row
 
-  abbrev phase : ℕ
-  phase = phase_giving t (source_page p) source at
-
-  -- the ticket of the phase that gives the result: of one phase the ticket itself
-  abbrev giving : Ticket
-  giving = ticket_in t phase
-
-  reason_is : (told_of ticket p source out scratch at).reason ≡ by_steps giving (source_page p) source at
+  reason_is : (told_of ticket p source out scratch at).reason ≡ by_steps t (source_page p) source at
   unfolding is_done
   reason_is =
       let judged =
@@ -348,7 +332,7 @@ module _ (ticket : List ℕ) (p : Placements) (source out scratch : List ℕ) (a
 
   -- a statement on the finished page and on the steps is one on the output tray and on what is told
   of_job : (P : ℕ → Reason → Type 0)
-      → P (finished t (source_page p) source at.column at.row) (by_steps giving (source_page p) source at)
+      → P (finished t (source_page p) source at.column at.row) (by_steps t (source_page p) source at)
       → P (came_out ticket p source out scratch at) (told_of ticket p source out scratch at).reason
   of_job P holds =
       subst (λ (w : ℕ). P w (told_of ticket p source out scratch at).reason) (sym came_out_lem)
@@ -360,115 +344,37 @@ module _ (ticket : List ℕ) (p : Placements) (source out scratch : List ℕ) (a
   abbrev back_by : Bool → ℕ
   back_by low = back_of (segment_of t) low
 
-  -- ---- one phase
-
-  of_one : (P : ℕ → Reason → Type 0) → t.operation ≤ 4
-      → P (finished t (source_page p) source at.column at.row) (by_steps t (source_page p) source at)
-      → P (came_out ticket p source out scratch at) (told_of ticket p source out scratch at).reason
-  of_one P few holds =
-      of_job P
-      (subst
-      (λ (one : Ticket).
-      P (finished t (source_page p) source at.column at.row) (by_steps one (source_page p) source at))
-      (sym (phases.ticket_giving_one t (source_page p) source at few)) holds)
-
-  job_once : (n : ℕ) (low : Bool) → Once n low → t.operation ≡ n → n ≤ 4
+  job_once : (n : ℕ) (low : Bool) → Once n low → t.operation ≡ n
       → ByOnePass t (source_page p) page (back_by low) (came_out ticket p source out scratch at) at
       (told_of ticket p source out scratch at).reason
-  job_once n low how e few =
-      of_one (λ w reason. ByOnePass t (source_page p) page (back_by low) w at reason) (omega arith)
+  job_once n low how e =
+      of_job (λ w reason. ByOnePass t (source_page p) page (back_by low) w at reason)
       (once t (source_page p) source allowed at is_shown low (subst (λ (k : ℕ). Once k low) (sym e) how))
 
-  job_twice : (n first : ℕ) (low : Bool) → Twice n low → Once first low → t.operation ≡ n → n ≤ 4
+  job_twice : (n first : ℕ) (low : Bool) → Twice n low → Once first low → t.operation ≡ n
       → ByTwoPasses t (source_page p) page (finished (ordering first t) (source_page p) source) (back_by low)
       (back_by (not low)) (came_out ticket p source out scratch at) at (told_of ticket p source out scratch at).reason
-  job_twice n first low how one e few =
+  job_twice n first low how one e =
       let between : ℕ → ℕ → ℕ = finished (ordering first t) (source_page p) source in
-      of_one (λ w reason. ByTwoPasses t (source_page p) page between (back_by low) (back_by (not low)) w at reason)
-      (omega arith)
+      of_job (λ w reason. ByTwoPasses t (source_page p) page between (back_by low) (back_by (not low)) w at reason)
       (twice t (source_page p) source allowed at is_shown low (subst (λ (k : ℕ). Twice k low) (sym e) how) first one)
-
-  -- ---- all phases
-
-  -- what is told of phase i, and its steps
-  abbrev InPhase : ℕ → ℕ → Bool → ℕ → ℕ → Reason → Type 0
-  InPhase n first low i w reason =
-      LowestPhase t (source_page p) source n w at i
-      × ByTwoPasses (ticket_in t i) (source_page p) page (finished (ordering first (ticket_in t i)) (source_page p) source)
-      (back_by low) (back_by (not low)) w at reason
-
-  giving_shown : Shown giving (source_page p) at.column at.row
-  unfolding ticket_in boxes_of
-  giving_shown = record { column = is_shown.column; row = is_shown.row; unhidden = is_shown.unhidden }
-
-  -- the steps of the phase that gives the result, with the windows of the ticket
-  giving_twice : (first : ℕ) (low : Bool) → Twice (each_phase t.operation) low → Once first low
-      → ByTwoPasses giving (source_page p) page (finished (ordering first giving) (source_page p) source) (back_by low)
-      (back_by (not low)) (finished giving (source_page p) source at.column at.row) at
-      (by_steps giving (source_page p) source at)
-  unfolding ticket_in
-  giving_twice first low how one =
-      rw (back_in t phase low, back_in t phase (not low)) at
-      (twice giving (source_page p) source (phases.giving_allowed t (source_page p) source at allowed) at giving_shown low
-      how first one)
-
-  job_all : (n first : ℕ) (low : Bool) → Twice n low → Once first low → 5 ≤ t.operation → each_phase t.operation ≡ n
-      → InPhase n first low (told_of ticket p source out scratch at).reason.phase
-      (came_out ticket p source out scratch at) (told_of ticket p source out scratch at).reason
-  unfolding ticket_in
-  job_all n first low how one all is =
-      let gives = phases.phase_gives t (source_page p) source at allowed all in
-      let told = giving_twice first low (subst (λ (k : ℕ). Twice k low) (sym is) how) one in
-      let same = gives.gives in
-      of_job (λ w reason. InPhase n first low reason.phase w reason)
-      (subst
-      (λ (i : ℕ).
-      InPhase n first low i (finished t (source_page p) source at.column at.row)
-      (by_steps giving (source_page p) source at))
-      (sym told.phase) (
-        record {
-          below = gives.below;
-          orders = is;
-          gives = gives.gives;
-          lowest = gives.lowest;
-        },
-        subst
-            (λ (w : ℕ).
-            ByTwoPasses giving (source_page p) page (finished (ordering first giving) (source_page p) source) (back_by low)
-            (back_by (not low)) w at (by_steps giving (source_page p) source at))
-            same told,
-      ))
 
 pub why_erosion : WhyErosion
 unfolding back_of segment_of
 why_erosion ticket p source out scratch at h e =
-    job_once ticket p source out scratch at h erosion true named.erosion_once e (omega arith)
+    job_once ticket p source out scratch at h erosion true named.erosion_once e
 
 pub why_dilation : WhyDilation
 unfolding back_of segment_of filters.dilation_back
 why_dilation ticket p source out scratch at h e =
-    job_once ticket p source out scratch at h dilation false named.dilation_once e (omega arith)
+    job_once ticket p source out scratch at h dilation false named.dilation_once e
 
 pub why_opening : WhyOpening
 unfolding back_of segment_of filters.dilation_back
 why_opening ticket p source out scratch at h e =
     job_twice ticket p source out scratch at h opening erosion true named.opening_twice named.erosion_once e
-    (omega arith)
 
 pub why_closing : WhyClosing
 unfolding back_of segment_of filters.dilation_back
 why_closing ticket p source out scratch at h e =
     job_twice ticket p source out scratch at h closing dilation false named.closing_twice named.dilation_once e
-    (omega arith)
-
-pub why_opening_in_all : WhyOpeningInAll
-unfolding back_of segment_of filters.dilation_back each_phase
-why_opening_in_all ticket p source out scratch at h e =
-    job_all ticket p source out scratch at h opening erosion true named.opening_twice named.erosion_once
-    (omega arith) (ap each_phase e)
-
-pub why_closing_in_all : WhyClosingInAll
-unfolding back_of segment_of filters.dilation_back each_phase
-why_closing_in_all ticket p source out scratch at h e =
-    job_all ticket p source out scratch at h closing dilation false named.closing_twice named.dilation_once
-    (omega arith) (ap each_phase e)

@@ -1,11 +1,11 @@
--- What a question is answered, and the box that is told of a hidden pixel. No job is refused with 19, so it is the
--- question's own.
+-- What a question is answered, and the box that is told of a hidden pixel. No job is refused with a number above 14, so
+-- 19 is the question's own.
 -- Assumes nothing.
 use mathlib.Core.Path.{◌≡◌, refl, sym, ap, ◌∙◌, subst}
 use mathlib.Core.Bool.{Bool, true, false, cond, true≢false}
 use mathlib.Core.Logic.{inl, inr, by_cases}
 use mathlib.Core.List.{List, [], ◌∷◌}
-use Prim.Native.Nat.{ℕ, zero, suc, ◌<◌}
+use Prim.Native.Nat.{ℕ, zero, suc, ◌≤◌, ◌<◌}
 use native.Mathlib.Decide.{dec_lt}
 use native.Mathlib.Omega.{arith}
 use borrow.Author.Tests.{ltb-true}
@@ -61,96 +61,82 @@ why_done ticket p source out scratch work at done on =
     ∙ laws.why_judged ticket p (lengths source out scratch) at work done
     ∙ laws.pixel_on p at on.column on.row
 
--- ---- no job is refused with 19: all its refusals are below 15, or 20
+-- ---- no job is refused with a number above 14
 
-abbrev Other : Answer → Type 0
-Other a = number_of a ≡ 19 → ⊥
-
-other_then : (a b : Answer) → Other a → Other b → Other (a then b)
+small_then : (a b : Answer) → number_of a ≤ 14 → number_of b ≤ 14 → number_of (a then b) ≤ 14
 unfolding ◌then◌ number_of
-other_then (Done work) b h k = k
-other_then (Refused refusal place) b h k = h
+small_then (Done work) b h k = k
+small_then (Refused refusal place) b h k = h
 
-other_unless : (test : Bool) (refusal : Refusal) (place : ℕ) → (refusal_number refusal ≡ 19 → ⊥)
-    → Other (unless test refusal place)
+small_unless : (test : Bool) (refusal : Refusal) (place : ℕ) → refusal_number refusal ≤ 14
+    → number_of (unless test refusal place) ≤ 14
 unfolding unless number_of
-other_unless true refusal place h = λ e. omega arith
-other_unless false refusal place h = h
+small_unless true refusal place h = omega arith
+small_unless false refusal place h = h
 
-other_done : (work : ℕ) → Other (Done work)
+small_done : (work : ℕ) → number_of (Done work) ≤ 14
 unfolding number_of
-other_done work e = omega arith
+small_done work = omega arith
 
-other_case : (b : Bool) (a : Answer) → Other a → Other (cond b (Done 0) a)
-other_case true a h = other_done 0
-other_case false a h = h
+small_case : (b : Bool) (a : Answer) → number_of a ≤ 14 → number_of (cond b (Done 0) a) ≤ 14
+small_case true a h = small_done 0
+small_case false a h = h
 
 module _ (s : List ℕ) where
-  other_head : (at tag : ℕ) → Other (judge_head s at tag)
+  small_head : (at tag : ℕ) → number_of (judge_head s at tag) ≤ 14
   unfolding judge_head
-  other_head at tag =
-      other_then _ _ (other_unless _ _ at (λ e. omega arith)) (other_unless _ _ at (λ e. omega arith))
+  small_head at tag =
+      small_then _ _ (small_unless _ _ at (omega arith)) (small_unless _ _ at (omega arith))
 
-  other_size : (at size : ℕ) → Other (judge_size s at size)
+  small_size : (at size : ℕ) → number_of (judge_size s at size) ≤ 14
   unfolding judge_size
-  other_size at size =
-      other_then _ _ (other_unless _ _ at (λ e. omega arith)) (other_unless _ _ at (λ e. omega arith))
+  small_size at size =
+      small_then _ _ (small_unless _ _ at (omega arith)) (small_unless _ _ at (omega arith))
 
-  other_field : (at tag size : ℕ) → Other (judge_field s at tag size)
+  small_field : (at tag size : ℕ) (test : Bool) (refusal : Refusal) → refusal_number refusal ≤ 14
+      → number_of (judge_field s at tag size then unless test refusal at) ≤ 14
   unfolding judge_field
-  other_field at tag size = other_then _ _ (other_head at tag) (other_size at size)
+  small_field at tag size test refusal h =
+      small_then _ _ (small_then _ _ (small_head at tag) (small_size at size)) (small_unless test refusal at h)
 
-  -- a field with one judgement of its value, and with two
-  other_one : (at tag size : ℕ) (test : Bool) (refusal : Refusal) → (refusal_number refusal ≡ 19 → ⊥)
-      → Other (judge_field s at tag size then unless test refusal at)
-  other_one at tag size test refusal h =
-      other_then _ _ (other_field at tag size) (other_unless test refusal at h)
-
-  other_two : (at tag size : ℕ) (test also : Bool) (refusal second : Refusal) → (refusal_number refusal ≡ 19 → ⊥)
-      → (refusal_number second ≡ 19 → ⊥)
-      → Other (judge_field s at tag size then unless test refusal at then unless also second at)
-  other_two at tag size test also refusal second h k =
-      other_then _ _ (other_field at tag size)
-      (other_then _ _ (other_unless test refusal at h) (other_unless also second at k))
-
-  other_boxes : (head k n : ℕ) → Other (judge_boxes s head k n)
+  small_boxes : (head k n : ℕ) → number_of (judge_boxes s head k n) ≤ 14
   unfolding judge_boxes judge_box
-  other_boxes head k zero = other_done 0
-  other_boxes head k (suc n) =
-      other_case (eqb (length s) head) _
-      (other_then _ _
-      (other_then _ _ (other_head head 7)
-      (other_then _ _ (other_unless _ _ head (λ e. omega arith)) (other_size head 8)))
-      (other_boxes (field_end s head) (suc k) n))
+  small_boxes head k zero = small_done 0
+  small_boxes head k (suc n) =
+      small_case (eqb (length s) head) _
+      (small_then _ _
+      (small_then _ _ (small_head head 7)
+      (small_then _ _ (small_unless _ _ head (omega arith)) (small_size head 8)))
+      (small_boxes (field_end s head) (suc k) n))
 
-  other_ticket : Other (judged s)
+  small_ticket : number_of (judged s) ≤ 14
   unfolding judged judge_operation judge_line judge_vector judge_length judge_origin judge_phase
-  other_ticket =
-      other_then _ _ (other_one _ _ _ _ _ (λ e. omega arith))
-      (other_then _ _ (other_two _ _ _ _ _ _ _ (λ e. omega arith) (λ e. omega arith))
-      (other_then _ _ (other_one _ _ _ _ _ (λ e. omega arith))
-      (other_then _ _ (other_one _ _ _ _ _ (λ e. omega arith))
-      (other_then _ _ (other_one _ _ _ _ _ (λ e. omega arith))
-      (other_then _ _ (other_two _ _ _ _ _ _ _ (λ e. omega arith) (λ e. omega arith)) (other_boxes first_box 0 65))))))
+  small_ticket =
+      small_then _ _ (small_field _ _ _ _ _ (omega arith))
+      (small_then _ _ (small_field _ _ _ _ _ (omega arith))
+      (small_then _ _ (small_field _ _ _ _ _ (omega arith))
+      (small_then _ _ (small_field _ _ _ _ _ (omega arith))
+      (small_then _ _ (small_field _ _ _ _ _ (omega arith))
+      (small_then _ _ (small_field _ _ _ _ _ (omega arith)) (small_boxes first_box 0 65))))))
 
-other_page_boxes : (w h k : ℕ) (boxes : List HiddenBox) → Other (judge_page_boxes_from w h k boxes)
+small_page_boxes : (w h k : ℕ) (boxes : List HiddenBox) → number_of (judge_page_boxes_from w h k boxes) ≤ 14
 unfolding judge_page_boxes_from
-other_page_boxes w h k [] = other_done 0
-other_page_boxes w h k (b ∷ boxes) =
-    other_then _ _ (other_unless _ _ k (λ e. omega arith)) (other_page_boxes w h (suc k) boxes)
+small_page_boxes w h k [] = small_done 0
+small_page_boxes w h k (b ∷ boxes) =
+    small_then _ _ (small_unless _ _ k (omega arith)) (small_page_boxes w h (suc k) boxes)
 
-other_places : (t : Ticket) (p : Placements) (n : Lengths) → Other (judge_places t p n)
+small_places : (t : Ticket) (p : Placements) (n : Lengths) → number_of (judge_places t p n) ≤ 14
 unfolding judge_places judge_sides judge_source judge_output judge_scratch judge_page_boxes
-other_places t p n =
-    other_then _ _ (other_unless _ _ 0 (λ e. omega arith))
-    (other_then _ _ (other_unless _ _ 0 (λ e. omega arith))
-    (other_then _ _ (other_unless _ _ 0 (λ e. omega arith))
-    (other_then _ _ (other_unless _ _ 0 (λ e. omega arith)) (other_page_boxes p.width p.height 0 (boxes_of t)))))
+small_places t p n =
+    small_then _ _ (small_unless _ _ 0 (omega arith))
+    (small_then _ _ (small_unless _ _ 0 (omega arith))
+    (small_then _ _ (small_unless _ _ 0 (omega arith))
+    (small_then _ _ (small_unless _ _ 0 (omega arith)) (small_page_boxes p.width p.height 0 (boxes_of t)))))
 
-other_answer : (ticket : List ℕ) (p : Placements) (n : Lengths) → Other (answer ticket p n)
+small_answer : (ticket : List ℕ) (p : Placements) (n : Lengths) → number_of (answer ticket p n) ≤ 14
 unfolding answer
-other_answer ticket p n =
-    other_then _ _ (other_ticket ticket) (other_then _ _ (other_places (shown ticket) p n) (other_done _))
+small_answer ticket p n =
+    small_then _ _ (small_ticket ticket) (small_then _ _ (small_places (shown ticket) p n) (small_done _))
 
 pub why_nineteen : WhyNineteen
 unfolding number_of is_done
@@ -172,8 +158,13 @@ why_nineteen ticket p source out scratch at given = by_answer (answer ticket p (
     by_answer (Refused refusal place) e =
         let told = why_refused ticket p source out scratch at refusal place e in
         absurd
-        (other_answer ticket p (lengths source out scratch)
-        (omega (arith, given, ap (λ (x : Told). number_of x.answer) told, ap number_of e)))
+        (omega (
+          arith,
+          given,
+          ap (λ (x : Told). number_of x.answer) told,
+          ap number_of e,
+          small_answer ticket p (lengths source out scratch),
+        ))
 
 -- ---- a hidden pixel
 

@@ -1,11 +1,11 @@
 -- The reach of a question: the windows that a reason is searched in are near the pixel, so trays that agree there name
--- the same steps; and where they agree so in every phase, the same phase gives the result.
+-- the same steps.
 -- Assumes nothing.
 use mathlib.Core.Path.{◌≡◌, refl, sym, ap, ◌∙◌, subst}
 use mathlib.Core.Bool.{Bool, true, false, not}
 use mathlib.Core.Logic.{by_cases}
 use mathlib.Core.List.{List}
-use Prim.Native.Nat.{ℕ, suc, ◌+◌, ◌≤◌, ◌<◌}
+use Prim.Native.Nat.{ℕ, suc, ◌+◌, ◌<◌}
 use native.Mathlib.Decide.{dec_le}
 use native.Mathlib.Omega.{arith}
 use Rattle.geometry.specs.Line.{step_of}
@@ -24,21 +24,18 @@ use Rattle.filter.specs.Filters as filters
 use Rattle.filter.specs.Filters.{on_line, erosion, dilation, opening, closing}
 use Rattle.filter.specs.Engine.{back_of}
 use Rattle.filter.specs.Laws.{same_line}
-use Rattle.filter.specs.Phases.{each_to}
-use Rattle.job.specs.Order.{line_of, segment_of, ticket_in, white}
+use Rattle.job.specs.Order.{line_of, segment_of, white}
 use Rattle.job.specs.Job.{finished}
-use Rattle.job.specs.Laws.{finished_allowed, line_sound, one_phase, phase_ticket_allowed}
+use Rattle.job.specs.Laws.{finished_allowed, line_sound}
 use Rattle.nearby.specs.declared.Pixel.{Pixel}
 use Rattle.why.specs.Laws as laws
 use Rattle.why.specs.Named as named
 use Rattle.why.specs.Named.{Once, Twice, NamedStep, SameWindow, along_of, beside_of, first_seen}
-use Rattle.why.specs.Phases as phases
-use Rattle.why.specs.Reason.{seen_by, by_steps, phase_giving, reason_of}
+use Rattle.why.specs.Reason.{seen_by, by_steps, reason_of}
 use Rattle.why.specs.Told.{why_answer, lengths_of, told}
-use Rattle.demands.specs.Near.{Near, PhaseOf}
 use Rattle.demands.specs.Reach.{AgreeNear}
 use Rattle.demands.specs.Why.{WhyReach}
-use Rattle.demands.proofs.Reach.{AgreeOne, agree_in, steps_same, finished_same}
+use Rattle.demands.proofs.Reach.{steps_same, finished_same}
 use Rattle.demands.proofs.Windows.{window_same, line_same}
 use Rattle.demands.proofs.Why.{Shown, back_below, second_found}
 use Rattle.demands.proofs.WhyAnswers.{answers_same, why_same, why_same_refused}
@@ -50,18 +47,8 @@ unfolding back_of segment_of filters.dilation_back
 backs_whole t ok true = omega (arith, ok.origin_below)
 backs_whole t ok false = omega (arith, ok.origin_below)
 
--- trays that agree near a pixel on the line of a ticket with one phase agree near it in every phase of the ticket
-agree_one : (t : Ticket) (p : Placement) (source source' : List ℕ) (c r : ℕ) → t.operation ≤ 4
-    → AgreeOne t p source source' c r → AgreeNear t p source source' c r
-unfolding AgreeNear AgreeOne
-agree_one t p source source' c r few agree i phase c' r' near =
-    let own : ticket_in t i ≡ t = ap (ticket_in t) (phase.own few) ∙ one_phase t few in
-    agree c' r' (subst (λ (one : Ticket). Near one p c r c' r') own near)
-
--- ---- one phase
-
-module _ (t : Ticket) (p : Placement) (source source' : List ℕ) (ok : Allowed t) (few : t.operation ≤ 4) (at : Pixel)
-    (agree : AgreeOne t p source source' at.column at.row) where
+module _ (t : Ticket) (p : Placement) (source source' : List ℕ) (ok : Allowed t) (at : Pixel)
+    (agree : AgreeNear t p source source' at.column at.row) where
   abbrev l : Line
   l = line_of t
 
@@ -88,9 +75,7 @@ module _ (t : Ticket) (p : Placement) (source source' : List ℕ) (ok : Allowed 
   near_same s h k = steps_same t p source source' at.column at.row agree s h k
 
   result_same : finished t p source at.column at.row ≡ finished t p source' at.column at.row
-  result_same =
-      finished_same t p source source' at.column at.row
-      (agree_one t p source source' at.column at.row few agree) white ok
+  result_same = finished_same t p source source' at.column at.row agree white ok
 
   module _ (low : Bool) where
     abbrev back : ℕ
@@ -152,60 +137,17 @@ module _ (t : Ticket) (p : Placement) (source source' : List ℕ) (ok : Allowed 
       (λ past_two.
       by_cases (dec_le t.operation 3)
       (λ three. twice_same true opening named.opening_twice (omega arith) shown)
-      (λ past_three. twice_same false closing named.closing_twice (omega arith) shown)))
-
--- ---- the phase that gives the result
-
-module _ (t : Ticket) (p : Placement) (source source' : List ℕ) (ok : Allowed t) (at : Pixel)
-    (agree : AgreeNear t p source source' at.column at.row) where
-  -- where there is one phase it is that, and of all phases each gives the same
-  phase_same : phase_giving t p source at ≡ phase_giving t p source' at
-  unfolding ticket_in
-  phase_same =
-      by_cases (dec_le t.operation 4)
-      (λ few. phases.giving_one t p source at few ∙ sym (phases.giving_one t p source' at few))
-      (λ many. all_same (omega arith))
-    where
-      all_same : 5 ≤ t.operation → phase_giving t p source at ≡ phase_giving t p source' at
-      all_same all =
-          phases.phase_same t p source source' at
-          (λ i below.
-          let counts : PhaseOf t i = record { own = λ h. absurd (omega arith); below = λ h. below } in
-          result_same (ticket_in t i) p source source' (phase_ticket_allowed t ok all i below)
-          (each_to t.operation all ok.operation_to) at
-          (agree_in t p source source' at.column at.row agree i counts))
-          (finished_same t p source source' at.column at.row agree white ok)
-
-  -- it counts for the pixel
-  giving_counts : PhaseOf t (phase_giving t p source at)
-  giving_counts =
-      record {
-        own = λ few. phases.giving_one t p source at few;
-        below = λ all. (phases.phase_gives t p source at ok all).below;
-      }
+      (λ past_three. twice_same false closing named.closing_twice (omega (arith, ok.operation_to)) shown)))
 
   reasons_same : at.column < p.width → at.row < p.height → reason_of t p source at ≡ reason_of t p source' at
-  unfolding ticket_in boxes_of
   reasons_same column row = by_hidden (hidden (boxes_of t) at.column at.row) refl
     where
-      giving : Ticket
-      giving = ticket_in t (phase_giving t p source at)
-
-      giving_same : hidden (boxes_of t) at.column at.row ≡ false
-          → by_steps giving p source at ≡ by_steps giving p source' at
-      giving_same e =
-          steps_told giving p source source' (phases.giving_allowed t p source at ok)
-          (phases.giving_few t p source at ok) at
-          (agree_in t p source source' at.column at.row agree _ giving_counts)
-          (record { column = column; row = row; unhidden = e })
-
       by_hidden : (b : Bool) → hidden (boxes_of t) at.column at.row ≡ b
           → reason_of t p source at ≡ reason_of t p source' at
       by_hidden true e = laws.reason_box t p source at e ∙ sym (laws.reason_box t p source' at e)
       by_hidden false e =
           laws.reason_steps t p source at e
-          ∙ giving_same e
-          ∙ ap (λ (i : ℕ). by_steps (ticket_in t i) p source' at) phase_same
+          ∙ steps_told (record { column = column; row = row; unhidden = e })
           ∙ sym (laws.reason_steps t p source' at e)
 
 -- ---- what is told

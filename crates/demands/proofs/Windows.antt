@@ -4,18 +4,17 @@
 use mathlib.Core.Path.{◌≡◌, refl, sym, ap, ◌∙◌}
 use mathlib.Core.Bool.{Bool, true, false, cond}
 use mathlib.Core.Option.{Option, none, some}
-use Prim.Native.Nat.{ℕ, zero, suc, ◌+◌, ◌-◌, ◌≤◌, ◌<◌}
+use Prim.Native.Nat.{ℕ, suc, ◌+◌, ◌-◌, ◌≤◌, ◌<◌}
 use native.Mathlib.Omega.{arith}
-use borrow.Author.Tests.{leb-true, ne_eqb}
+use borrow.Author.Tests.{leb-true}
 use lib.Dec.{leb, eqb}
 use Rattle.geometry.specs.Line.{landing, step_of, major_at}
 use Rattle.geometry.specs.Drift.{Sound}
 use Rattle.geometry.specs.Laws.{step_of_major}
 use Rattle.geometry.specs.declared.Line.{Line}
 use Rattle.filter.specs.Seen.{View}
-use Rattle.filter.specs.Filters.{joined, extreme, value_at, on_line, in_window, pass_at, pass, eroded, dilation_back}
-use Rattle.filter.specs.Filters.{dilated, opened, closed, in_all_phases, opened_in_all, closed_in_all, segment_in}
-use Rattle.filter.specs.Filters.{erosion, dilation, opening, closing, opening_in_all, closing_in_all, operated}
+use Rattle.filter.specs.Filters.{value_at, on_line, in_window, pass_at, pass, eroded, dilation_back}
+use Rattle.filter.specs.Filters.{dilated, opened, closed, erosion, dilation, opening, closing, operated}
 use Rattle.filter.specs.Laws.{extreme_same, pass_absent, own_on_line, same_line}
 use Rattle.filter.specs.declared.Segment.{Segment}
 
@@ -97,20 +96,12 @@ module _ (l : Line) (ok : Sound l) (L M m : ℕ) (page page' : View)
     twice_same : pass two l b L (pass one l a L page) M m ≡ pass two l b L (pass one l a L page') M m
     twice_same = pass_same l ok (pass one l a L page) (pass one l a L page') b L M m line_same two (omega arith)
 
--- ---- the four operations that have one phase
+-- ---- the four operations
 
 cond_same :
     (b : Bool) (f g f' g' : View) (M m : ℕ) → f M m ≡ f' M m → g M m ≡ g' M m → cond b f g M m ≡ cond b f' g' M m
 cond_same true f g f' g' M m h k = h
 cond_same false f g f' g' M m h k = k
-
--- of an operation that has one phase the last two cases are none
-past_four :
-    (n : ℕ) → n ≤ 4 → (f g f' g' : View) (M m : ℕ)
-    → cond (eqb n opening_in_all) f (cond (eqb n closing_in_all) g (λ (M m : ℕ). none)) M m
-    ≡ cond (eqb n opening_in_all) f' (cond (eqb n closing_in_all) g' (λ (M m : ℕ). none)) M m
-past_four n few f g f' g' M m =
-    rw (ne_eqb n opening_in_all (λ e. omega arith), ne_eqb n closing_in_all (λ e. omega arith)) refl
 
 module _ (segment : Segment) (ok : Sound segment.line) (short : segment.origin < segment.length) where
   -- the two windows are end to end: L - 1 - o and o
@@ -125,9 +116,9 @@ module _ (segment : Segment) (ok : Sound segment.line) (short : segment.origin <
       (same :
       (s : ℕ) → step_of segment.line M < s + segment.length → s < step_of segment.line M + segment.length
       → on_line segment.line page M m s ≡ on_line segment.line page' M m s) where
-    pub operated_same : (n : ℕ) → n ≤ 4 → operated n segment page M m ≡ operated n segment page' M m
+    pub operated_same : (n : ℕ) → operated n segment page M m ≡ operated n segment page' M m
     unfolding operated eroded dilated opened closed
-    operated_same n few =
+    operated_same n =
         let l : Line = segment.line in
         let L : ℕ = segment.length in
         let o : ℕ = segment.origin in
@@ -139,9 +130,7 @@ module _ (segment : Segment) (ok : Sound segment.line) (short : segment.origin <
         (cond_same (eqb n opening) (opened segment page) _ (opened segment page') _ M m
         (twice_same l ok L M m page page' same true false o back whole_open)
         (cond_same (eqb n closing) (closed segment page) _ (closed segment page') _ M m
-        (twice_same l ok L M m page page' same false true back o whole_close)
-        (past_four n few (opened_in_all segment page) (closed_in_all segment page) (opened_in_all segment page')
-        (closed_in_all segment page') M m))))
+        (twice_same l ok L M m page page' same false true back o whole_close) refl)))
 
 -- ---- an absent pixel stays absent
 
@@ -149,40 +138,19 @@ cond_none : (b : Bool) (f g : View) (M m : ℕ) → f M m ≡ none → g M m ≡
 cond_none true f g M m h k = h
 cond_none false f g M m h k = k
 
--- nothing, joined with nothing
-pub extreme_none :
-    (low : Bool) (value : ℕ → Option ℕ) → ((i : ℕ) → value i ≡ none) → (k n : ℕ) → extreme low value k n ≡ none
-unfolding extreme joined
-extreme_none low value each k zero = refl
-extreme_none low value each k (suc n) =
-    ap (λ (o : Option ℕ). joined low o (extreme low value (suc k) n)) (each k) ∙ extreme_none low value each (suc k) n
-
-module _ (segment : Segment) (page : View) (M m : ℕ) (e : page M m ≡ none) where
-  eroded_none : eroded segment page M m ≡ none
-  unfolding eroded
-  eroded_none = pass_absent true segment.line segment.origin segment.length page M m e
-
-  dilated_none : dilated segment page M m ≡ none
-  unfolding dilated
-  dilated_none = pass_absent false segment.line (dilation_back segment) segment.length page M m e
-
-opened_none : (segment : Segment) (page : View) (M m : ℕ) → page M m ≡ none → opened segment page M m ≡ none
-unfolding opened
-opened_none segment page M m e = dilated_none segment (eroded segment page) M m (eroded_none segment page M m e)
-
-closed_none : (segment : Segment) (page : View) (M m : ℕ) → page M m ≡ none → closed segment page M m ≡ none
-unfolding closed
-closed_none segment page M m e = eroded_none segment (dilated segment page) M m (dilated_none segment page M m e)
-
 pub operated_none :
     (n : ℕ) (segment : Segment) (page : View) (M m : ℕ) → page M m ≡ none → operated n segment page M m ≡ none
-unfolding operated opened_in_all closed_in_all in_all_phases
+unfolding operated eroded dilated opened closed
 operated_none n segment page M m e =
-    cond_none (eqb n erosion) (eroded segment page) _ M m (eroded_none segment page M m e)
-    (cond_none (eqb n dilation) (dilated segment page) _ M m (dilated_none segment page M m e)
-    (cond_none (eqb n opening) (opened segment page) _ M m (opened_none segment page M m e)
-    (cond_none (eqb n closing) (closed segment page) _ M m (closed_none segment page M m e)
-    (cond_none (eqb n opening_in_all) (opened_in_all segment page) _ M m
-    (extreme_none false _ (λ i. opened_none (segment_in segment i) page M m e) 0 _)
-    (cond_none (eqb n closing_in_all) (closed_in_all segment page) _ M m
-    (extreme_none true _ (λ i. closed_none (segment_in segment i) page M m e) 0 _) refl)))))
+    let l : Line = segment.line in
+    let L : ℕ = segment.length in
+    let o : ℕ = segment.origin in
+    let back : ℕ = dilation_back segment in
+    let eroding : eroded segment page M m ≡ none = pass_absent true l o L page M m e in
+    let dilating : dilated segment page M m ≡ none = pass_absent false l back L page M m e in
+    cond_none (eqb n erosion) (eroded segment page) _ M m eroding
+    (cond_none (eqb n dilation) (dilated segment page) _ M m dilating
+    (cond_none (eqb n opening) (opened segment page) _ M m
+    (pass_absent false l back L (eroded segment page) M m eroding)
+    (cond_none (eqb n closing) (closed segment page) _ M m
+    (pass_absent true l o L (dilated segment page) M m dilating) refl)))

@@ -1,32 +1,25 @@
--- The work is at most 3·w·h a pass: each of a pixel's three charges is at most one. Of all phases at once it is the sum
--- of the phases' and a comparison a pixel for each after the first.
+-- The work is at most 3·w·h a pass: each of a pixel's three charges is at most one.
 -- Assumes nothing.
-use mathlib.Core.Path.{◌≡◌, refl, sym, ap, ◌∙◌}
+use mathlib.Core.Path.{◌≡◌, refl, sym, ap}
 use mathlib.Core.Bool.{Bool, true, false, ◌||◌, cond}
 use mathlib.Core.Logic.{inl, inr}
 use Prim.Native.Nat.{ℕ, zero, suc, ◌+◌, ◌-◌, ◌*◌, ◌/◌, ◌%◌, ◌≤◌, min}
-use native.Mathlib.Nat.{mul_comm, mul_assoc, add-mul}
+use native.Mathlib.Nat.{mul_comm}
 use native.Mathlib.Omega.{arith}
-use borrow.Author.Tests.{ne_eqb}
 use lib.Dec.{eqb}
-use Rattle.geometry.specs.Line.{in_phase}
 use Rattle.geometry.specs.Number.{behind, ahead}
 use Rattle.runs.specs.Block.{rightward, leftward, resulting}
 use Rattle.runs.specs.Scratch.{total}
 use Rattle.ticket.specs.Reading.{shown}
-use Rattle.ticket.specs.declared.Ticket.{Ticket}
 use Rattle.filter.specs.Seen.{runs_steep}
-use Rattle.filter.specs.Filters.{erosion, dilation, opening, closing, opening_in_all, closing_in_all, dilation_back}
-use Rattle.filter.specs.Filters.{segment_in, phases_of}
-use Rattle.filter.specs.Phases.{each_to, work_in_all}
-use Rattle.filter.specs.Work.{charged, charged_at, pass_work, erosion_work, dilation_work, opening_work, closing_work}
-use Rattle.filter.specs.Work.{all_phases_work, work_of}
+use Rattle.filter.specs.Filters.{erosion, dilation, opening, closing, dilation_back}
+use Rattle.filter.specs.Work.{charged, charged_at, pass_work, erosion_work, dilation_work, work_of}
 use Rattle.filter.specs.declared.Segment.{Segment}
-use Rattle.job.specs.Order.{line_of, segment_of, ticket_in}
+use Rattle.job.specs.Order.{segment_of}
 use Rattle.job.specs.Job.{job_work}
-use Rattle.job.specs.Laws.{finished_job, phases_in}
+use Rattle.job.specs.Laws.{finished_job}
 use Rattle.demands.specs.Work.{PassWork, OnePassWork, TwoPassWork, FinishedWork, FinishedOnePass}
-use Rattle.demands.specs.Work.{FinishedTwoPasses, AllPhases, AllPhasesSum, AllPhasesWork, FinishedAllPhases}
+use Rattle.demands.specs.Work.{FinishedTwoPasses}
 
 one_or_none : (b : Bool) → cond b 0 1 ≤ 1
 one_or_none true = omega arith
@@ -93,76 +86,25 @@ one_pass_work t w h (inl e) =
 one_pass_work t w h (inr e) =
     rw (ap (λ (n : ℕ). work_of n (segment_of t) w h) e) (dilation_most (segment_of t) w h)
 
--- of an operation that has one phase the last two cases are none
 of_two :
-    (n : ℕ) → n ≤ 4 → (x y v all all' : ℕ) → x ≤ v → y ≤ v
-    → cond (eqb n erosion) x
-    (cond (eqb n dilation) y
-    (cond (eqb n opening) (x + y)
-    (cond (eqb n closing) (y + x) (cond (eqb n opening_in_all) all (cond (eqb n closing_in_all) all' 0)))))
-    ≤ v + v
-of_two n few x y v all all' h k =
-    rw (ne_eqb n opening_in_all (λ e. omega arith), ne_eqb n closing_in_all (λ e. omega arith))
-    (each (eqb n erosion) (eqb n dilation) (eqb n opening) (eqb n closing))
-  where
-    each : (one two three four : Bool) → cond one x (cond two y (cond three (x + y) (cond four (y + x) 0))) ≤ v + v
-    each true two three four = omega arith
-    each false true three four = omega arith
-    each false false true four = omega arith
-    each false false false true = omega arith
-    each false false false false = omega arith
-
-two_most : (n : ℕ) → n ≤ 4 → (s : Segment) (w h : ℕ) → work_of n s w h ≤ 6 * (w * h)
-unfolding work_of opening_work closing_work
-two_most n few s w h =
-    omega (
-      arith,
-      of_two n few _ _ (3 * (w * h)) (all_phases_work opening_work s w h) (all_phases_work closing_work s w h)
-          (erosion_most s w h)
-          (dilation_most s w h),
-    )
+    (one two three four : Bool) (x y v : ℕ) → x ≤ v → y ≤ v
+    → cond one x (cond two y (cond three (x + y) (cond four (y + x) 0))) ≤ v + v
+of_two true two three four x y v h k = omega arith
+of_two false true three four x y v h k = omega arith
+of_two false false true four x y v h k = omega arith
+of_two false false false true x y v h k = omega arith
+of_two false false false false x y v h k = omega arith
 
 pub two_pass_work : TwoPassWork
-unfolding job_work
-two_pass_work t w h few = two_most t.operation few (segment_of t) w h
-
--- ---- all phases
-
--- operations 5 and 6 are those from 5 to 6
-module _ (t : Ticket) where
-  all_from : AllPhases t → 5 ≤ t.operation
-  all_from (inl e) = omega (arith, e)
-  all_from (inr e) = omega (arith, e)
-
-  all_to : AllPhases t → t.operation ≤ 6
-  all_to (inl e) = omega (arith, e)
-  all_to (inr e) = omega (arith, e)
-
-pub all_phases_sum : AllPhasesSum
-unfolding job_work all_phases_work segment_of line_of segment_in in_phase ticket_in phases_of
-all_phases_sum t w h all = work_in_all t.operation (all_from t all) (all_to t all) (segment_of t) w h
-
--- k times six passes' comparisons, and k - 1 more
-gathered : (k P : ℕ) → k * (6 * P) + (k - 1) * P ≡ (6 * k + (k - 1)) * P
-gathered k P =
-    ap (λ (q : ℕ). q + (k - 1) * P) (sym (mul_assoc k 6 P) ∙ ap (λ (q : ℕ). q * P) (mul_comm k 6))
-    ∙ sym (add-mul (6 * k) (k - 1) P)
-
-pub all_phases_work_lem : AllPhasesWork
-unfolding job_work ticket_in
-all_phases_work_lem t w h all =
-    let k : ℕ = phases_in t in
+unfolding job_work work_of
+two_pass_work t w h =
+    let n : ℕ = t.operation in
     omega (
       arith,
-      all_phases_sum t w h all,
-      total_most (λ (i : ℕ). job_work (ticket_in t i) w h) (6 * (w * h))
-          (λ i.
-          two_pass_work (ticket_in t i) w h (each_to t.operation (all_from t all) (all_to t all)))
-          0 k,
-      gathered k (w * h),
+      of_two (eqb n erosion) (eqb n dilation) (eqb n opening) (eqb n closing) _ _ (3 * (w * h))
+          (erosion_most (segment_of t) w h)
+          (dilation_most (segment_of t) w h),
     )
-
--- ---- the job
 
 pub finished_work : FinishedWork
 finished_work ticket p n work done = sym (finished_job ticket p n work done).worked
@@ -172,9 +114,5 @@ finished_one_pass ticket p n work done one =
     omega (arith, finished_work ticket p n work done, one_pass_work (shown ticket) p.width p.height one)
 
 pub finished_two_passes : FinishedTwoPasses
-finished_two_passes ticket p n work done few =
-    omega (arith, finished_work ticket p n work done, two_pass_work (shown ticket) p.width p.height few)
-
-pub finished_all_phases : FinishedAllPhases
-finished_all_phases ticket p n work done all =
-    omega (arith, finished_work ticket p n work done, all_phases_work_lem (shown ticket) p.width p.height all)
+finished_two_passes ticket p n work done =
+    omega (arith, finished_work ticket p n work done, two_pass_work (shown ticket) p.width p.height)

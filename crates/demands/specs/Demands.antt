@@ -1,12 +1,12 @@
 -- The demands that are theorems over the definitions of a job, of a job on a file, of a list of jobs and of a question:
--- every statement of this crate and of `unions`, in one record.
+-- every statement of this crate, in one record.
 -- proofs/Demands.antt has its proof.
 -- Assumes nothing.
 use Rattle.demands.specs.Same.{SameAnswer, SameNumber, SamePlace, SameWork}
 use Rattle.demands.specs.Untouched.{OutputKept, OutputLength, ScratchKept, ScratchLength, ScratchZero}
 use Rattle.demands.specs.Untouched.{RefusedOutput, RefusedScratch, RefusedWork}
 use Rattle.demands.specs.Work.{PassWork, OnePassWork, TwoPassWork, FinishedWork, FinishedOnePass}
-use Rattle.demands.specs.Work.{FinishedTwoPasses, AllPhasesSum, AllPhasesWork, FinishedAllPhases}
+use Rattle.demands.specs.Work.{FinishedTwoPasses}
 use Rattle.demands.specs.Near.{NearIn, NearSelf, NearStep, NearBack}
 use Rattle.demands.specs.Reach.{Reach, PageAlone, HiddenWhite}
 use Rattle.demands.specs.Exact.{ClearSteps, ExactReach, ExactJobReach}
@@ -15,17 +15,14 @@ use Rattle.demands.specs.Flip.{FlippedFileWork, FlippedVector, FlippedBoxes, Fli
 use Rattle.demands.specs.Files.{FileOutputKept, FileOutputLength, FileScratchKept, FileScratchLength}
 use Rattle.demands.specs.Files.{FileScratchZero, FileRefusedOutput, FileRefusedScratch, FileRefusedWork}
 use Rattle.demands.specs.Files.{FileReadsBack, FilePageBack, FileHidden, FileWork, FileOnePass}
-use Rattle.demands.specs.Files.{FileAllPhases, FileSame, FileReach, FilePageAlone, FileExact}
+use Rattle.demands.specs.Files.{FileSame, FileReach, FilePageAlone, FileExact}
 use Rattle.demands.specs.Lists.{ListSingle, ListSame, ListTold, ListZeroPast, ListZeroAt18, ListUntoldAt100}
 use Rattle.demands.specs.Lists.{ListAnswersKept, ListAnswersLength, ListRefusedTrays, ListRefusedJob}
 use Rattle.demands.specs.Lists.{ListOutputKept, ListOutputLength, ListScratchKept, ListScratchLength}
 use Rattle.demands.specs.Lists.{ListScratchZero, ListLaterWins, ListPage, ListHidden, ListReach, ListPageAlone}
 use Rattle.demands.specs.Lists.{ListExact}
 use Rattle.demands.specs.Why.{WhyRefused, WhyOffPage, WhyNineteen, WhyDone, WhyBox, NamesOne, WhyErosion}
-use Rattle.demands.specs.Why.{WhyDilation, WhyOpening, WhyClosing, WhyOpeningInAll, WhyClosingInAll}
-use Rattle.demands.specs.Why.{WhySame, WhySameRefused, WhyReach}
-use Rattle.unions.specs.Union.{UnionOne, UnionOpening, UnionClosing}
-use Rattle.unions.specs.UnionMoved.{UnionMoved}
+use Rattle.demands.specs.Why.{WhyDilation, WhyOpening, WhyClosing, WhySame, WhySameRefused, WhyReach}
 
 pub record Demands : Type 0 where
   -- 1. a refused job writes nothing; a finished one writes only its page and leaves the scratch it used at zero
@@ -37,23 +34,19 @@ pub record Demands : Type 0 where
   pub refused_output : RefusedOutput
   pub refused_scratch : RefusedScratch
   pub refused_work : RefusedWork
-  -- 2. the work is at most three comparisons a pixel and pass; of all phases at once (document 02, wish 6) it is the
-  -- phases' and one comparison a pixel for each after the first
+  -- 2. the work is at most three comparisons a pixel and pass
   pub pass_work_lem : PassWork
   pub one_pass_work : OnePassWork
   pub two_pass_work : TwoPassWork
   pub finished_work : FinishedWork
   pub finished_one_pass : FinishedOnePass
   pub finished_two_passes : FinishedTwoPasses
-  pub all_phases_sum : AllPhasesSum
-  pub all_phases_work_lem : AllPhasesWork
-  pub finished_all_phases : FinishedAllPhases
   -- 3. two jobs with the same ticket, placements and lengths have the same answer
   pub same_answer : SameAnswer
   pub same_number : SameNumber
   pub same_place : SamePlace
   pub same_work : SameWork
-  -- 3. a pixel depends only on unhidden pixels of its own line, in each of its phases, fewer than L steps away
+  -- 3. a pixel depends only on unhidden pixels of its own line fewer than L steps away
   pub near_in : NearIn
   pub near_self : NearSelf
   pub near_step : NearStep
@@ -92,7 +85,6 @@ pub record Demands : Type 0 where
   pub file_hidden : FileHidden
   pub file_work : FileWork
   pub file_one_pass : FileOnePass
-  pub file_all_phases : FileAllPhases
   -- 3. for files that are read with the same sides, start and maximum: same answer, reach, exact reach
   pub file_same : FileSame
   pub file_reach : FileReach
@@ -134,16 +126,7 @@ pub record Demands : Type 0 where
   pub why_dilation : WhyDilation
   pub why_opening : WhyOpening
   pub why_closing : WhyClosing
-  -- and of all phases at once the lowest that gives the result
-  pub why_opening_in_all : WhyOpeningInAll
-  pub why_closing_in_all : WhyClosingInAll
   -- 3. the answer depends on no byte of the source, the reason on the unhidden pixels near the pixel
   pub why_same : WhySame
   pub why_same_refused : WhySameRefused
   pub why_reach : WhyReach
-  -- document 02, wish 6 (unions): at an unhidden pixel operations 5 and 6 are the union of the segments set at every
-  -- unhidden pixel of the page, so that a page that is moved comes out moved
-  pub union_opening : UnionOpening
-  pub union_closing : UnionClosing
-  pub union_one : UnionOne
-  pub union_moved : UnionMoved

@@ -1,7 +1,7 @@
 -- The demands on jobs that take a P5 file. Document 02, wish 1: "Demands 2 and 3 speak of pages once read, as 17 looks
 -- at hidden pixels too."
 -- Assumes nothing.
-use Rattle.std.specs.Prelude.{◌≡◌, true, ◌≢◌, List, ℕ, ◌+◌, ◌-◌, ◌*◌, ◌≤◌, ◌<◌, length, get_or}
+use Rattle.std.specs.Prelude.{◌≡◌, true, ◌≢◌, List, ℕ, ◌*◌, ◌≤◌, ◌<◌, length, get_or}
 use Rattle.refusal.specs.Answer.{number_of, work_in, is_done}
 use Rattle.refusal.specs.declared.Answer.TheVariants.{Done}
 use Rattle.ticket.specs.Laws.{Allowed, Bytes}
@@ -15,7 +15,6 @@ use Rattle.pgm.specs.Reading.{judged, reading}
 use Rattle.pgm.specs.declared.Header.{Header}
 use Rattle.judging.specs.Pages.{job_scratch}
 use Rattle.job.specs.Job.{lengths}
-use Rattle.job.specs.Laws.{phases_in}
 use Rattle.judging.specs.declared.Lengths.{Lengths}
 use Rattle.file.specs.FileJob.{header, file_page, file_answer, delivery, file_output_after, file_scratch_after}
 use Rattle.file.specs.Places.{header_for, places_of}
@@ -23,7 +22,7 @@ use Rattle.demands.specs.Same.{SameLengths}
 use Rattle.demands.specs.Near.{Near}
 use Rattle.demands.specs.Reach.{AgreeNear, AgreeOnPage}
 use Rattle.demands.specs.Exact.{OpensOrCloses, Clear}
-use Rattle.demands.specs.Work.{OnePass, AllPhases}
+use Rattle.demands.specs.Work.{OnePass}
 
 -- where the page of a file stands in the file, and in the file that is written
 abbrev pub source_of : List ℕ → Placement
@@ -124,20 +123,12 @@ FileHidden =
 abbrev pub FileWork : Type 0
 FileWork =
     (ticket file : List ℕ) (n : Lengths) (work : ℕ) → file_answer ticket file n ≡ Done work
-    → (shown ticket).operation ≤ 4
     → work ≤ 6 * ((header file).width * (header file).height)
 
 abbrev pub FileOnePass : Type 0
 FileOnePass =
     (ticket file : List ℕ) (n : Lengths) (work : ℕ) → file_answer ticket file n ≡ Done work → OnePass (shown ticket)
     → work ≤ 3 * ((header file).width * (header file).height)
-
--- and of all phases at once one comparison a pixel for each phase after the first
-abbrev pub FileAllPhases : Type 0
-FileAllPhases =
-    (ticket file : List ℕ) (n : Lengths) (work : ℕ) → file_answer ticket file n ≡ Done work → AllPhases (shown ticket)
-    → work
-    ≤ (6 * phases_in (shown ticket) + (phases_in (shown ticket) - 1)) * ((header file).width * (header file).height)
 
 -- ---- 3. what answers and pixels depend on
 

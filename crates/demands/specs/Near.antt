@@ -1,22 +1,28 @@
 -- Which pixels are near a pixel: those of its own line fewer than L steps away, on the page. Document 01, 'Lines':
 -- "Each pixel lies on one line. Its in_page_lem pixels are consecutive steps". The reach (Reach) and its exactness (Exact)
--- are stated over this one nearness. Document 02, wish 6, all phases at once: "Demand 3's lines are then those of all
--- phases", and PhaseOf says which these are.
+-- are stated over this one nearness.
 -- A pixel at M of the axis along which its line runs, and at m of the other, stands at step step_of l M of its line;
 -- step s of that line is at major_at l M s of the first axis and lands on landing l m (step_of l M) s of the other
 -- (geometry, Line).
 -- Assumes nothing.
-pub use Rattle.filter.specs.Axes.{major_place, minor_place}
-use Rattle.std.specs.Prelude.{◌≡◌, Bool, true, ℕ, ◌+◌, ◌≤◌, ◌<◌}
+use Rattle.std.specs.Prelude.{◌≡◌, Bool, true, ℕ, ◌+◌, ◌<◌}
 use Rattle.std.proofs.Math.Option.{some}
-use Rattle.vectors.specs.Vector.{major_of}
 use Rattle.geometry.specs.Line.{landing, step_of, major_at}
 use Rattle.geometry.specs.Number.{in_page}
 use Rattle.geometry.specs.declared.Line.{Line}
 use Rattle.ticket.specs.Laws.{Allowed}
 use Rattle.ticket.specs.declared.Ticket.{Ticket}
 use Rattle.placement.specs.declared.Placement.{Placement}
+use Rattle.tray.specs.Turned.{down_of, across_of}
+use Rattle.filter.specs.Seen.{runs_steep}
 use Rattle.job.specs.Order.{line_of}
+
+-- a pixel's place along the major axis (the columns of a shallow line, the rows of a steep one), and along the other
+abbrev pub major_place : Line → ℕ → ℕ → ℕ
+major_place l c r = down_of (runs_steep l) c r
+
+abbrev pub minor_place : Line → ℕ → ℕ → ℕ
+minor_place l c r = across_of (runs_steep l) c r
 
 -- the step of its line at which the pixel at column c, row r stands
 abbrev pub step_at : Line → ℕ → ℕ → ℕ
@@ -45,12 +51,6 @@ pub record Near (t : Ticket) (p : Placement) (c r c' r' : ℕ) : Type 0 where
   pub fewer : FewerSteps t.length (step_at (line_of t) c r) step
   pub on_page_lem : on_page (line_of t) p c r step ≡ true
   pub is_step : IsStep (line_of t) c r step c' r'
-
--- the phases whose lines count for a pixel: of operations 1 to 4 the ticket's own alone, of 5 and 6 every phase below
--- k, the larger component. The line in phase i is that of the ticket of phase i (job, Order).
-pub record PhaseOf (t : Ticket) (i : ℕ) : Type 0 where
-  pub own : t.operation ≤ 4 → i ≡ t.phase
-  pub below : 5 ≤ t.operation → i < major_of t.dx t.dy
 
 -- ---- Near says what it should, for a ticket that was read
 

@@ -1,8 +1,7 @@
 -- Document 01, 'What answers may depend on': "A result pixel: these, and the unhidden pixels named in demand 3; a step
 -- over a hidden pixel still counts as a step." Those are the unhidden pixels on the pixel's line fewer than L steps
--- away, for all operations: also for opening and closing, whose two windows together reach L - 1 steps each way and not
--- 2(L - 1). Of all phases at once (document 02, wish 6) "Demand 3's lines are then those of all phases": the pixel's
--- line in each of them.
+-- away, for all four operations: also for opening and closing, whose two windows together reach L - 1 steps each way
+-- and not 2(L - 1).
 -- Assumes nothing.
 use Rattle.std.specs.Prelude.{◌≡◌, true, false, List, ℕ, ◌<◌}
 use Rattle.refusal.specs.declared.Answer.TheVariants.{Done}
@@ -13,16 +12,14 @@ use Rattle.boxes.specs.Boxes.{hidden, boxes_of}
 use Rattle.placement.specs.Placement.{pixel_in, source_page, output_page}
 use Rattle.placement.specs.declared.Placement.{Placement}
 use Rattle.placement.specs.declared.Placements.{Placements}
-use Rattle.job.specs.Order.{ticket_in}
 use Rattle.job.specs.Job.{answer, lengths, output_after}
 use Rattle.demands.specs.Same.{SameLengths}
-use Rattle.demands.specs.Near.{Near, PhaseOf}
+use Rattle.demands.specs.Near.{Near}
 
--- two source trays agree on the unhidden pixels near the pixel at column c, row r, on its line in every phase of the
--- ticket: of operations 1 to 4 that is its one line
+-- two source trays agree on the unhidden pixels near the pixel at column c, row r
 unfoldable pub AgreeNear : Ticket → Placement → List ℕ → List ℕ → ℕ → ℕ → Type 0
 AgreeNear t p source source' c r =
-    (i : ℕ) → PhaseOf t i → (c' r' : ℕ) → Near (ticket_in t i) p c r c' r'
+    (c' r' : ℕ) → Near t p c r c' r'
     → hidden (boxes_of t) c' r' ≡ false
     → pixel_in source p c' r' ≡ pixel_in source' p c' r'
 

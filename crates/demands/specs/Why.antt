@@ -1,10 +1,8 @@
 -- Document 02, wish 4: "Given a job and a pixel, name the reason". "The tool is proved to name the true reason and the
--- first one"; and wish 6, all phases at once: "Wish 4 names the lowest phase that gives the result first". Said of what
--- is told (why, Told), over the words of a job: its answer, its output tray, the finished page of a ticket, and the
--- steps of a line (Near). No pass of a filter and no search is named.
+-- first one". Said of what is told (why, Told), over the words of a job: its answer, its output tray, the finished page
+-- of a ticket, and the steps of a line (Near). No pass of a filter and no search is named.
 -- Assumes nothing.
 use Rattle.std.specs.Prelude.{◌≡◌, true, false, ◌⊎◌, List, ℕ, ◌-◌, ◌≤◌, ◌<◌, length, get_or}
-use Rattle.vectors.specs.Vector.{major_of}
 use Rattle.refusal.specs.Answer.{number_of, is_done}
 use Rattle.refusal.specs.declared.Answer.TheVariants.{Done, Refused}
 use Rattle.refusal.specs.declared.Later.TheVariants.{PixelOffPage}
@@ -19,9 +17,9 @@ use Rattle.boxes.specs.Laws.{InBox}
 use Rattle.placement.specs.Placement.{pixel_in, source_page, output_page}
 use Rattle.placement.specs.declared.Placement.{Placement}
 use Rattle.placement.specs.declared.Placements.{Placements}
-use Rattle.filter.specs.Filters.{erosion, dilation, opening, closing, opening_in_all, closing_in_all}
+use Rattle.filter.specs.Filters.{erosion, dilation, opening, closing}
 use Rattle.filter.specs.Laws.{InWindow}
-use Rattle.job.specs.Order.{line_of, ticket_in}
+use Rattle.job.specs.Order.{line_of}
 use Rattle.job.specs.Job.{finished, answer, lengths, output_after}
 use Rattle.nearby.specs.declared.Pixel.{Pixel}
 use Rattle.why.specs.Reason.{hidden_box, one_pass, two_passes, without_steps, no_reason}
@@ -213,48 +211,6 @@ WhyClosing =
     (erosion_back (shown ticket)) (came_out ticket p source out scratch at) at
     (told_of ticket p source out scratch at).reason
 
--- ---- all phases at once: "Wish 4 names the lowest phase that gives the result first"
-
--- i is the lowest of the k phases, k the larger component, in which the operation alone has the grey w at the pixel:
--- the ticket of phase i (job, Order) orders it along the lines of that phase
-pub record LowestPhase (t : Ticket) (p : Placement) (source : List ℕ) (operation w : ℕ) (at : Pixel) (i : ℕ)
-    : Type 0 where
-  pub below : i < major_of t.dx t.dy
-  pub orders : (ticket_in t i).operation ≡ operation
-  pub gives : finished (ticket_in t i) p source at.column at.row ≡ w
-  pub lowest : (j : ℕ) → j < i → finished (ticket_in t j) p source at.column at.row ≡ w → ⊥
-
--- "operation 5, the pixelwise maximum of the openings over all k phases": the phase that is told is the lowest whose
--- own opening has the pixel that came out, and the steps are those of the opening in that phase;
-abbrev pub WhyOpeningInAll : Type 0
-WhyOpeningInAll =
-    (ticket : List ℕ) (p : Placements) (source out scratch : List ℕ) (at : Pixel)
-    → Unhidden ticket p source out scratch at
-    → (shown ticket).operation ≡ opening_in_all
-    → LowestPhase (shown ticket) (source_page p) source opening (came_out ticket p source out scratch at) at
-    (told_of ticket p source out scratch at).reason.phase
-    × ByTwoPasses (ticket_in (shown ticket) (told_of ticket p source out scratch at).reason.phase) (source_page p)
-    (pixel_in source (source_page p))
-    (finished (ordering erosion (ticket_in (shown ticket) (told_of ticket p source out scratch at).reason.phase))
-    (source_page p) source)
-    (erosion_back (shown ticket)) (dilation_back (shown ticket)) (came_out ticket p source out scratch at) at
-    (told_of ticket p source out scratch at).reason
-
--- "and 6, the minimum of the closings": the same of the closings.
-abbrev pub WhyClosingInAll : Type 0
-WhyClosingInAll =
-    (ticket : List ℕ) (p : Placements) (source out scratch : List ℕ) (at : Pixel)
-    → Unhidden ticket p source out scratch at
-    → (shown ticket).operation ≡ closing_in_all
-    → LowestPhase (shown ticket) (source_page p) source closing (came_out ticket p source out scratch at) at
-    (told_of ticket p source out scratch at).reason.phase
-    × ByTwoPasses (ticket_in (shown ticket) (told_of ticket p source out scratch at).reason.phase) (source_page p)
-    (pixel_in source (source_page p))
-    (finished (ordering dilation (ticket_in (shown ticket) (told_of ticket p source out scratch at).reason.phase))
-    (source_page p) source)
-    (dilation_back (shown ticket)) (erosion_back (shown ticket)) (came_out ticket p source out scratch at) at
-    (told_of ticket p source out scratch at).reason
-
 -- ---- "It may depend on what demand 3 allows for that pixel."
 
 -- The answer depends on no byte of the source: ticket, placements, lengths and the pixel alone decide it,
@@ -273,8 +229,8 @@ WhySameRefused =
     → told ticket p source output scratch at ≡ told ticket p source' output scratch at
 
 -- THE REACH of a question, for every ticket, every placement and every pixel: where two sources agree on the unhidden
--- pixels near the pixel, in every phase of the ticket, the same is told, whatever else they hold. Output tray and
--- scratch count by their lengths only. Of the ticket it is used that it is bytes.
+-- pixels near the pixel the same is told, whatever else they hold. Output tray and scratch count by their lengths only.
+-- Of the ticket it is used that it is bytes.
 abbrev pub WhyReach : Type 0
 WhyReach =
     (ticket : List ℕ) (p : Placements) (source source' : List ℕ) (output scratch : ℕ) (at : Pixel) → Bytes ticket

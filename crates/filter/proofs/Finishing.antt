@@ -1,5 +1,5 @@
 -- From its buffer into the scratch and out again: what stands in the scratch is the filtered page. Assumes nothing.
-use mathlib.Core.Path.{◌≡◌, refl, sym, ap, ap₂, ◌∙◌, subst}
+use mathlib.Core.Path.{◌≡◌, refl, sym, ap, ◌∙◌, subst}
 use mathlib.Core.Bool.{Bool, true, false, not, ◌&&◌, cond}
 use mathlib.Core.Option.{none, some, some-injective, none-ne-some}
 use mathlib.Core.List.{List}
@@ -213,36 +213,30 @@ module _ (how : Recipe) (p : Placement) (lay : Layout) (laid : lay ≡ layout_of
       (work_of how.operation how.segment l.width l.height) 6 two three work) laid through)
       (subst (λ (l : Layout). BoxesPainted (recipe_boxes how) l how.white three four) laid whited)
 
-  pub room_laid : (n : ℕ) → p.width * p.height ≤ n → lay.width * lay.height ≤ n
-  room_laid n h = subst (λ (l : Layout). l.width * l.height ≤ n) (sym laid) h
-
-  pub rows_fit : (source scratch : ℕ) → Enters how p source scratch → compact_height lay ≤ 8192
-  rows_fit source scratch e = rows_most how lay (boxes_lie source scratch e)
-
 -- ---- out of it
 
-module _ (how : Recipe) (from to : Placement) (n m k : ℕ) (fits : Fits how from to n m k) where
-  -- the layout goes by the sides, which both pages share
-  same_layout : layout_of how to.width to.height ≡ layout_of how from.width from.height
-  same_layout = ap₂ (layout_of how) fits.same_width fits.same_height
-
-  pub room_out : to.width * to.height ≤ k
-  room_out = rw (fits.same_width, fits.same_height) (omega (arith, fits.enters.room))
+module _ (how : Recipe) (from to : Placement) (n m k : ℕ) (fits : Fits how from to n m k) (lay : Layout)
+    (laid : lay ≡ layout_of how from.width from.height) where
+  pub sides_out : SameSides lay to
+  sides_out =
+      subst (λ (l : Layout). SameSides l to) (sym laid) (record { across = fits.same_width; down = fits.same_height })
 
   pub given_out :
       (source output scratch used after : List ℕ) (work : ℕ) → Ready how from source scratch used work
-      → after ≡ written to (compact_pixel used (layout_of how to.width to.height)) output
-      → Filtered how from to source output scratch after used work
+      → after ≡ written to (compact_pixel used lay) output → Filtered how from to source output scratch after used work
   unfolding compact_pixel
   given_out source output scratch used after work ready out =
       record {
         written_is =
             out
             ∙ written_same to _ _ output
-            (λ r r_in c c_in. ap (λ (l : Layout). get_or used (compact_at l c r) 0) same_layout
+            (λ r r_in c c_in. ap (λ (l : Layout). get_or used (compact_at l c r) 0) laid
             ∙ ready.pixel r (omega (arith, fits.same_height)) c (omega (arith, fits.same_width)));
         same_length = ready.same_length;
         rest = ready.rest;
         work_is = ready.work_is;
         work_few = ready.work_few;
       }
+
+  pub rows_fit : compact_height lay ≤ 8192
+  rows_fit = rows_most how lay (boxes_lie how from lay laid n k fits.enters)

@@ -23,7 +23,7 @@ use Rattle.boxes.specs.Boxes.{hidden}
 use Rattle.hiding.specs.Hiding.{BoxesLie, BoxesPainted}
 use Rattle.filter.specs.Seen.{View, turned}
 use Rattle.filter.specs.Filters.{pass, eroded, dilation_back, dilated, opened, closed, operated, recipe_boxes}
-use Rattle.filter.specs.Work.{pass_work, erosion_work, dilation_work, work_of, opening_work, closing_work}
+use Rattle.filter.specs.Work.{pass_work, erosion_work, dilation_work, work_of}
 use Rattle.filter.specs.Engine.{neutral, or_neutral, Absent, Shows, steep_of, falls_of, layout_of, back_of}
 use Rattle.filter.specs.Engine.{passed, pass_cost, grid_of, scratch_place, Held, Fair, PassReady, PassDone}
 use Rattle.filter.proofs.Bridge.{bridge}
@@ -320,7 +320,7 @@ module _ (how : Recipe) (lay : Layout) (laid : lay ≡ layout_of how lay.width l
         (opens : Bool) → eqb how.operation 3 ≡ opens
         → Is (λ (page : View). passed how (not opens) (passed how opens page))
         (pass_cost how lay opens + pass_cost how lay (not opens))
-    unfolding operated opened closed work_of opening_work closing_work
+    unfolding operated opened closed work_of
     two_passes_are true e =
         let off-one = ne_eqb how.operation 1 one in
         let off-two = ne_eqb how.operation 2 two in

@@ -1,17 +1,9 @@
--- A pixel by column and row, and by its places on the two axes of a line: laws that others may use, with the exchange
--- of the axes left shut.
+-- A pixel by column and row, and by its places on the two axes: laws that others may use, with the exchange of the axes
+-- left shut.
 -- Assumes nothing.
 use Rattle.std.specs.Prelude.{◌≡◌, refl, Bool, true, false, ℕ, ◌<◌}
-use Rattle.geometry.specs.declared.Line.{Line}
 use Rattle.tray.specs.Turned.{down_of, across_of}
-use Rattle.filter.specs.Seen.{View, turned, runs_steep}
-
--- a pixel's place along the major axis (the columns of a shallow line, the rows of a steep one), and along the other
-abbrev pub major_place : Line → ℕ → ℕ → ℕ
-major_place l c r = down_of (runs_steep l) c r
-
-abbrev pub minor_place : Line → ℕ → ℕ → ℕ
-minor_place l c r = across_of (runs_steep l) c r
+use Rattle.filter.specs.Seen.{View, turned}
 
 -- a page by its axes is the page by columns and rows
 pub turned_is :

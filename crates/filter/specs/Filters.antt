@@ -1,12 +1,11 @@
--- Document 01, 'The four filters', and document 02, wish 6, along a segment: a line, a length L and an origin o. A page
--- is a function with nothing where a pixel is absent (Seen); a filter makes such a page of such a page, so what is
--- absent stays absent and "hidden pixels are absent in the second pass too". Up to `operated` a page is by its place M
--- on the major axis and m on the minor one, from `filtered` on by column and row.
+-- Document 01, 'The four filters', along a segment: a line, a length L and an origin o. A page is a function with
+-- nothing where a pixel is absent (Seen); a filter makes such a page of such a page, so what is absent stays absent and
+-- "hidden pixels are absent in the second pass too". Up to `operated` a page is by its place M on the major axis and m
+-- on the minor one, from `filtered` on by column and row.
 -- Assumes nothing.
 use Rattle.std.specs.Prelude.{ℕ, zero, suc, ◌+◌, ◌-◌, Bool, true, false, cond, List, leb, eqb, take}
 use Rattle.std.proofs.Math.Option.{Option, none, some}
-use Rattle.vectors.specs.Vector.{major_of}
-use Rattle.geometry.specs.Line.{landing, step_of, major_at, in_phase}
+use Rattle.geometry.specs.Line.{landing, step_of, major_at}
 use Rattle.geometry.specs.declared.Line.{Line}
 use Rattle.runs.specs.Span.{chosen}
 use Rattle.ticket.specs.declared.HiddenBox.{HiddenBox}
@@ -67,31 +66,7 @@ opened s page = dilated s (eroded s page)
 unfoldable pub closed : Segment → View → View
 closed s page = eroded s (dilated s page)
 
--- ---- wish 6: all phases at once
-
--- the segment in another phase of its line
-unfoldable pub segment_in : Segment → ℕ → Segment
-segment_in s i = record { line = in_phase s.line i; length = s.length; origin = s.origin }
-
--- "all k phases": k is the larger component
-unfoldable pub phases_of : Segment → ℕ
-phases_of s = major_of s.line.dx s.line.dy
-
--- a filter in every phase, and pixel by pixel the lowest, or highest, of what comes out
-unfoldable pub in_all_phases : Bool → (Segment → View → View) → Segment → View → View
-in_all_phases low filter s page M m = extreme low (λ (i : ℕ). filter (segment_in s i) page M m) 0 (phases_of s)
-
--- "operation 5, the pixelwise maximum of the openings over all k phases"
-unfoldable pub opened_in_all : Segment → View → View
-opened_in_all s page = in_all_phases false opened s page
-
--- "and 6, the minimum of the closings"
-unfoldable pub closed_in_all : Segment → View → View
-closed_in_all s page = in_all_phases true closed s page
-
--- ---- the operations by their numbers
-
--- "operation: 1 erode, 2 dilate, 3 open, 4 close", and wish 6's two
+-- "operation: 1 erode, 2 dilate, 3 open, 4 close"
 abbrev pub erosion : ℕ
 erosion = 1
 
@@ -104,21 +79,12 @@ opening = 3
 abbrev pub closing : ℕ
 closing = 4
 
-abbrev pub opening_in_all : ℕ
-opening_in_all = 5
-
-abbrev pub closing_in_all : ℕ
-closing_in_all = 6
-
 -- every operation by its name; any other number finds nothing, and no ticket that is read has one
 unfoldable pub operated : ℕ → Segment → View → View
 operated n s page =
     cond (eqb n erosion) (eroded s page)
     (cond (eqb n dilation) (dilated s page)
-    (cond (eqb n opening) (opened s page)
-    (cond (eqb n closing) (closed s page)
-    (cond (eqb n opening_in_all) (opened_in_all s page)
-    (cond (eqb n closing_in_all) (closed_in_all s page) (λ (M m : ℕ). none))))))
+    (cond (eqb n opening) (opened s page) (cond (eqb n closing) (closed s page) (λ (M m : ℕ). none))))
 
 -- the same, by column and row
 unfoldable pub filtered : ℕ → Segment → View → View

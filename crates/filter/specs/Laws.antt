@@ -2,7 +2,7 @@
 -- each other through a window and through the reflected one, and what becomes of a pixel that is absent or there.
 -- Assumes nothing.
 use Rattle.std.specs.Prelude.{◌≡◌, refl, Bool, true, false, cond, ◌⊎◌, ℕ, zero, suc, ◌+◌, ◌-◌, ◌≤◌, ◌<◌, leb}
-use Rattle.std.proofs.Common.{sym, ap, ap₂, ◌∙◌, inl, inr, ⊎_elim, add-zero, add-suc, suc-add, add-sub_cancel, arith, le-leb}
+use Rattle.std.proofs.Common.{sym, ap, ap₂, ◌∙◌, inl, inr, ⊎_elim, add-suc, add-sub_cancel, arith, le-leb}
 use Rattle.std.proofs.Math.Logic.{by_cases}
 use Rattle.std.proofs.Math.Option.{Option, none, some, some-injective, none-ne-some}
 use Rattle.std.proofs.Math.Decide.{dec_lt, dec_le}
@@ -32,18 +32,6 @@ chosen_one : (low : Bool) (x y : ℕ) → (chosen low x y ≡ x) ⊎ (chosen low
 unfolding chosen
 chosen_one true x y = by_cases (dec_le x y) (λ h. inl (omega arith)) (λ h. inr (omega arith))
 chosen_one false x y = by_cases (dec_le y x) (λ h. inl (omega arith)) (λ h. inr (omega arith))
-
-joined_none : (low : Bool) (x : Option ℕ) → joined low x none ≡ x
-unfolding joined
-joined_none low none = refl
-joined_none low (some x) = refl
-
-joined_assoc : (low : Bool) (x y z : Option ℕ) → joined low (joined low x y) z ≡ joined low x (joined low y z)
-unfolding joined
-joined_assoc low none y z = refl
-joined_assoc low (some x) none z = refl
-joined_assoc low (some x) (some y) none = refl
-joined_assoc low (some x) (some y) (some z) = ap {B = Option ℕ} some (chosen_assoc low x y z)
 
 joined_first : (low : Bool) (v : ℕ) (y : Option ℕ) → (w : ℕ) × (joined low (some v) y ≡ some w)
 unfolding joined
@@ -143,31 +131,6 @@ extreme_shifted low value value' d k (suc n) same =
     ap₂ (joined low) (same k (omega arith) (omega arith))
     (extreme_shifted low value value' d (suc k) n (λ q h b. same q (omega arith) (omega arith))
     ∙ ap (λ (q : ℕ). extreme low value' q n) (add-suc d k))
-
--- one value alone
-pub extreme_one : (low : Bool) (value : ℕ → Option ℕ) (k : ℕ) → extreme low value k 1 ≡ value k
-unfolding extreme
-extreme_one low value k = joined_none low (value k)
-
--- the last value taken off
-pub extreme_last : (low : Bool) (value : ℕ → Option ℕ) (k n : ℕ)
-    → extreme low value k (suc n) ≡ joined low (extreme low value k n) (value (k + n))
-unfolding extreme joined
-extreme_last low value k zero = joined_none low (value k) ∙ ap value (sym (add-zero k))
-extreme_last low value k (suc n) =
-    ap (joined low (value k)) (extreme_last low value (suc k) n)
-    ∙ sym (joined_assoc low (value k) (extreme low value (suc k) n) (value (suc k + n)))
-    ∙ ap (λ (q : ℕ). joined low (joined low (value k) (extreme low value (suc k) n)) (value q))
-    (suc-add k n ∙ sym (add-suc k n))
-
--- where all values are absent, so is the extreme
-pub extreme_absent : (low : Bool) (value : ℕ → Option ℕ) (k n : ℕ) → ((q : ℕ) → value q ≡ none)
-    → extreme low value k n ≡ none
-unfolding extreme joined
-extreme_absent low value k zero absent = refl
-extreme_absent low value k (suc n) absent =
-    ap (λ (o : Option ℕ). joined low o (extreme low value (suc k) n)) (absent k)
-    ∙ extreme_absent low value (suc k) n absent
 
 -- one of the n values from the k-th on is w
 pub record Attained (value : ℕ → Option ℕ) (k n w : ℕ) : Type 0 where

@@ -2,7 +2,6 @@ pub mod Seen
 pub mod Axes
 pub mod Filters
 pub mod Work
-pub mod Phases
 pub mod Sums
 pub mod Engine
 pub mod Promises

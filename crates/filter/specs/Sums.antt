@@ -26,7 +26,7 @@ total_plus c d k (suc n) =
     omega arith
 
 -- the last number taken off
-pub total_last : (c : ℕ → ℕ) (k n : ℕ) → total c k (suc n) ≡ total c k n + c (k + n)
+total_last : (c : ℕ → ℕ) (k n : ℕ) → total c k (suc n) ≡ total c k n + c (k + n)
 unfolding total
 total_last c k zero = omega (arith, ap c (add-zero k))
 total_last c k (suc n) =

@@ -12,10 +12,9 @@ use Rattle.ticket.specs.declared.HiddenBox.{HiddenBox}
 use Rattle.boxes.specs.Boxes.{hidden}
 use Rattle.filter.specs.Seen.{View, seen, turned, runs_steep}
 use Rattle.filter.specs.Filters.{value_at, on_line, pass, eroded, dilated, opened, closed, operated, filtered}
-use Rattle.filter.specs.Filters.{erosion, dilation, opening, closing, opening_in_all, closing_in_all, dilation_back}
-use Rattle.filter.specs.Filters.{in_all_phases, opened_in_all, closed_in_all, segment_in, phases_of}
+use Rattle.filter.specs.Filters.{erosion, dilation, opening, closing, dilation_back}
 use Rattle.filter.specs.Filters.{or_white, recipe_boxes, filtered_page}
-use Rattle.filter.specs.Laws.{pass_found, extreme_attained}
+use Rattle.filter.specs.Laws.{pass_found}
 use Rattle.filter.specs.declared.Recipe.{Recipe}
 use Rattle.filter.specs.declared.Segment.{Segment}
 
@@ -69,42 +68,19 @@ module _ (most : ℕ) where
   unfolding Within
   none_within M m v e = absurd (none-ne-some v e)
 
-  eroded_within : (s : Segment) (page : View) → Within most page → Within most (eroded s page)
-  unfolding eroded
-  eroded_within s page small = pass_within true s.line s.origin s.length page small
-
-  dilated_within : (s : Segment) (page : View) → Within most page → Within most (dilated s page)
-  unfolding dilated
-  dilated_within s page small = pass_within false s.line (dilation_back s) s.length page small
-
-  opened_within : (s : Segment) (page : View) → Within most page → Within most (opened s page)
-  unfolding opened
-  opened_within s page small = dilated_within s _ (eroded_within s page small)
-
-  closed_within : (s : Segment) (page : View) → Within most page → Within most (closed s page)
-  unfolding closed
-  closed_within s page small = eroded_within s _ (dilated_within s page small)
-
-  -- of all phases one has what comes out
-  all_within :
-      (low : Bool) (filter : Segment → View → View) (s : Segment) (page : View)
-      → ((i : ℕ) → Within most (filter (segment_in s i) page)) → Within most (in_all_phases low filter s page)
-  unfolding Within in_all_phases
-  all_within low filter s page small M m w e =
-      let one = extreme_attained low (λ (i : ℕ). filter (segment_in s i) page M m) 0 (phases_of s) w e in
-      small one.at M m w one.there
-
   operated_within : (n : ℕ) (s : Segment) (page : View) → Within most page → Within most (operated n s page)
-  unfolding operated opened_in_all closed_in_all
+  unfolding operated opened closed eroded dilated
   operated_within n s page small =
-      either_within (eqb n erosion) _ _ (eroded_within s page small)
-      (either_within (eqb n dilation) _ _ (dilated_within s page small)
-      (either_within (eqb n opening) _ _ (opened_within s page small)
-      (either_within (eqb n closing) _ _ (closed_within s page small)
-      (either_within (eqb n opening_in_all) _ _
-      (all_within false opened s page (λ i. opened_within (segment_in s i) page small))
-      (either_within (eqb n closing_in_all) _ _
-      (all_within true closed s page (λ i. closed_within (segment_in s i) page small)) none_within)))))
+      either_within (eqb n erosion) _ _ (eroded_so page small)
+      (either_within (eqb n dilation) _ _ (dilated_so page small)
+      (either_within (eqb n opening) _ _ (dilated_so _ (eroded_so page small))
+      (either_within (eqb n closing) _ _ (eroded_so _ (dilated_so page small)) none_within)))
+    where
+      eroded_so : (view : View) → Within most view → Within most (eroded s view)
+      eroded_so view h = pass_within true s.line s.origin s.length view h
+
+      dilated_so : (view : View) → Within most view → Within most (dilated s view)
+      dilated_so view h = pass_within false s.line (dilation_back s) s.length view h
 
   filtered_within : (n : ℕ) (s : Segment) (page : View) → Within most page → Within most (filtered n s page)
   unfolding filtered

@@ -1,16 +1,14 @@
--- Document 01, 'Work', and document 02, wish 6. The comparisons of a pass are charged to the pixels: x is a pixel's
--- number on its line, n how many pixels the line has, L the length of a block, a how far the window begins before its
--- pixel. "Hidden pixels cost the same", so nothing here looks at a box. A whole number; the answer carries it in 64
--- bits.
+-- Document 01, 'Work'. The comparisons of a pass are charged to the pixels: x is a pixel's number on its line, n how
+-- many pixels the line has, L the length of a block, a how far the window begins before its pixel. "Hidden pixels cost
+-- the same", so nothing here looks at a box. A whole number; the answer carries it in 64 bits.
 -- Assumes nothing.
-use Rattle.std.specs.Prelude.{ℕ, suc, ◌+◌, ◌-◌, ◌*◌, cond, eqb}
+use Rattle.std.specs.Prelude.{ℕ, suc, ◌+◌, ◌-◌, cond, eqb}
 use Rattle.geometry.specs.Number.{behind, ahead}
 use Rattle.geometry.specs.declared.Line.{Line}
 use Rattle.runs.specs.Block.{rightward, leftward, resulting}
 use Rattle.runs.specs.Scratch.{total}
 use Rattle.filter.specs.Seen.{runs_steep}
-use Rattle.filter.specs.Filters.{erosion, dilation, opening, closing, opening_in_all, closing_in_all}
-use Rattle.filter.specs.Filters.{dilation_back, segment_in, phases_of}
+use Rattle.filter.specs.Filters.{erosion, dilation, opening, closing, dilation_back}
 use Rattle.filter.specs.declared.Segment.{Segment}
 
 -- a step of a rightward running extreme, of a leftward one, and a result (sweep, Block)
@@ -35,21 +33,9 @@ dilation_work s w h =
     pass_work s.line (cond (runs_steep s.line) h w) (cond (runs_steep s.line) w h) s.length (dilation_back s)
 
 -- "Opening and closing add their two passes."
-unfoldable pub opening_work : Segment → ℕ → ℕ → ℕ
-opening_work s w h = erosion_work s w h + dilation_work s w h
-
-unfoldable pub closing_work : Segment → ℕ → ℕ → ℕ
-closing_work s w h = dilation_work s w h + erosion_work s w h
-
--- wish 6: "Work adds all passes and one comparison per pixel for each phase after the first", hidden ones too
-unfoldable pub all_phases_work : (Segment → ℕ → ℕ → ℕ) → Segment → ℕ → ℕ → ℕ
-all_phases_work work s w h = total (λ (i : ℕ). work (segment_in s i) w h) 0 (phases_of s) + (phases_of s - 1) * (w * h)
-
 unfoldable pub work_of : ℕ → Segment → ℕ → ℕ → ℕ
 work_of n s w h =
     cond (eqb n erosion) (erosion_work s w h)
     (cond (eqb n dilation) (dilation_work s w h)
-    (cond (eqb n opening) (opening_work s w h)
-    (cond (eqb n closing) (closing_work s w h)
-    (cond (eqb n opening_in_all) (all_phases_work opening_work s w h)
-    (cond (eqb n closing_in_all) (all_phases_work closing_work s w h) 0)))))
+    (cond (eqb n opening) (erosion_work s w h + dilation_work s w h)
+    (cond (eqb n closing) (dilation_work s w h + erosion_work s w h) 0)))

@@ -3,7 +3,7 @@
 // closing), Work (comparisons), Laws (what others may use of them), Promises (what the functions here ask and promise).
 // They speak of a page as a function of column and row; nobody above knows how the scratch is used.
 //
-//     page     a placed page filtered into a placed page: filter; its two halves: hold, give_out
+//     page     a placed page filtered into a placed page: filter
 //     passes   the four filters, of one pass or two, over the page in the scratch
 pub mod page;
 mod passes;

@@ -1,10 +1,7 @@
 // A page that stands in one lent buffer, filtered into a page that stands in another.
 ghost use Rattle.std.specs.Prelude.{◌≡◌, ◌+◌, ◌*◌, ◌≤◌, length};
 ghost use Rattle.geometry.specs.Drift.{Allowed};
-ghost use Rattle.placement.specs.Placement.{Placed};
-ghost use Rattle.turning.specs.Promises.{compact_pixel};
 ghost use Rattle.tray.specs.Turned.{compact_height};
-ghost use Rattle.tray.specs.Written.{written};
 ghost use Rattle.filter.specs.Engine.{layout_of, Tables, Enters, Ready};
 ghost use Rattle.filter.specs.Promises.{Fits, Filtered};
 
@@ -52,55 +49,39 @@ fn filter_in(
     work
 }
 
-// The same, with room for the line's tables.
-fn hold_with(
-    how: Recipe,
-    lay: Layout,
-    source: &[u8],
+// Where a page is filtered from, where to, and how it is laid out on the way.
+#[derive(Drop)]
+struct Way {
     from: Placement,
+    to: Placement,
+    lay: Layout,
+}
+
+// The same, with room for the line's tables, and the page given out.
+fn filter_with(
+    how: Recipe,
+    way: Way,
+    source: &[u8],
+    output: &mut [u8],
     scratch: &mut [u8],
     profile: &mut [usize],
     reaches: &mut [usize],
 ) -> usize
-    requires enters { Enters how from (length source.now) (length scratch.old) }
-    requires lay_value { lay ≡ layout_of how from.width from.height }
-    requires profile_len { (length profile.old ≡ compact_height lay) × (length reaches.old ≡ length profile.old) }
-    ensures { Ready how from source.now scratch.old scratch.new result }
+    requires fits { Fits how way.from way.to (length source.now) (length output.old) (length scratch.old) }
+    requires lay_value { way.lay ≡ layout_of how way.from.width way.from.height }
+    requires profile_len { length profile.old ≡ compact_height way.lay }
+    requires reaches_len { length reaches.old ≡ length profile.old }
+    ensures { Filtered how way.from way.to
+        source.now output.old scratch.old
+        output.new scratch.new result }
 {
+    let from = way.from;
+    let to = way.to;
+    let lay = way.lay;
     fill_tables(how, profile, reaches);
-    filter_in(how, lay, source, from, scratch, profile, reaches)
-}
-
-// The page filtered into the scratch, and held there as its lines run. It answers the comparisons. The first bytes of
-// the scratch, two for each pixel, are used.
-pub fn hold(how: Recipe, source: &[u8], from: Placement, scratch: &mut [u8]) -> usize
-    requires { Enters how from (length source.now) (length scratch.old) }
-    ensures { Ready how from source.now scratch.old scratch.new result }
-{
-    let mut profile = no_entries();
-    let mut reaches = no_entries();
-    let lay = passes::layout_of(how, from.width, from.height);
-    let rows = tray::sides::compact_height(lay);
-    hold_with(
-        how,
-        lay,
-        source,
-        from,
-        scratch,
-        &mut profile[..rows],
-        &mut reaches[..rows],
-    )
-}
-
-// A page that is held so, given out to its place in a tray; no other byte of the tray is written.
-pub fn give_out(how: Recipe, held: &[u8], to: Placement, output: &mut [u8])
-    requires allowed { Allowed how.segment.line }
-    requires placed { Placed to (length output.old) × (to.width * to.height ≤ length held.now) }
-    ensures { output.new ≡ written to
-        (compact_pixel held.now (layout_of how to.width to.height)) output.old }
-{
-    let lay = passes::layout_of(how, to.width, to.height);
-    turning::turn::page_out(held, lay, to, output);
+    let work = filter_in(how, lay, source, from, scratch, profile, reaches);
+    turning::turn::page_out(scratch, lay, to, output);
+    work
 }
 
 // The page at one place filtered into the page at the other: every pixel is as the recipe makes it, no other byte of
@@ -119,7 +100,22 @@ pub fn filter(
         source.now output.old scratch.old
         output.new scratch.new result }
 {
-    let work = hold(how, source, from, scratch);
-    give_out(how, scratch, to, output);
-    work
+    let mut profile = no_entries();
+    let mut reaches = no_entries();
+    let lay = passes::layout_of(how, from.width, from.height);
+    let rows = tray::sides::compact_height(lay);
+    let way = Way {
+        from: from,
+        to: to,
+        lay: lay,
+    };
+    filter_with(
+        how,
+        way,
+        source,
+        output,
+        scratch,
+        &mut profile[..rows],
+        &mut reaches[..rows],
+    )
 }

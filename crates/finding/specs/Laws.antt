@@ -216,7 +216,7 @@ module _ (s : Search) (row : List ℕ) (w : ℕ) (low : w < absent) where
       record { at = one.at; from = one.from; to = one.to; there = ap value_of one.there }
 
 -- the first place that has w, of places of which one has it
-pub first_has :
+first_has :
     (value : ℕ → ℕ) (k n w : ℕ) → HasAt value k n w → (r : ℕ) → r ≡ first (λ i. eqb (value i) w) k n
     → (k ≤ r) × (r < k + n) × (value r ≡ w)
 first_has value k n w one r is =

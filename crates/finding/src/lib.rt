@@ -8,7 +8,7 @@
 //     value     of two values the lower, or the higher
 //     extreme   the extreme of a part of a row, of one first pass, and of all
 //     hits      the first hit
-pub mod extreme;
+mod extreme;
 pub mod hits;
 mod value;
 

@@ -13,20 +13,19 @@ pub mod Integers
 pub mod Nearest
 pub mod Normal
 pub mod Numbering
-pub mod Phases
 pub mod Rows
 pub mod Slope
 use Rattle.std.specs.Prelude.{◌≡◌, refl, Bool, true, false, not, cond, ◌&&◌, ◌||◌, ◌⊎◌, ℕ, suc, ◌+◌, ◌*◌, ◌-◌, ◌/◌, ◌%◌, ◌≤◌, ◌<◌, max, ltb, leb, ℤ, pos, negsuc, neg_ℤ, nat_abs}
-use Rattle.std.proofs.Common.{sym, ap, ap₂, ◌∙◌, div-one, mul-one, zero-add, arith, leb-true, leb-false, SFits, to_z, of_z}
+use Rattle.std.proofs.Common.{sym, ap, ◌∙◌, arith, leb-true, leb-false, SFits, to_z, of_z}
 use Rattle.std.proofs.Math.Option.{Option, none, some}
 use Rattle.std.proofs.Math.Logic.{by_cases}
-use Rattle.std.proofs.Math.Nat.{mod-add-div', mod-one}
+use Rattle.std.proofs.Math.Nat.{mod-add-div'}
 use Rattle.std.proofs.Math.Decide.{dec_lt}
 use Rattle.std.specs.Int.Signed.{non_neg}
 use Rattle.std.specs.Int.{w32}
 use Rattle.std.proofs.lemmas.Int.{to_z-of_z}
 use Rattle.vectors.specs.Vector.{shallow, steep, Shallow, Steep, major_of, minor_of}
-use Rattle.geometry.specs.Line.{nearest, D, period, profile, landing, step_of, major_at, in_phase}
+use Rattle.geometry.specs.Line.{nearest, D, period, profile, landing, step_of, major_at}
 use Rattle.geometry.specs.Number.{within, in_page, behind, ahead}
 use Rattle.geometry.specs.Drift.{Sound, Allowed, Inside, StepIn, Lands, First}
 use Rattle.geometry.specs.Drift.{falls, drift, signed, mirrored, first, reach}
@@ -38,7 +37,6 @@ use Rattle.geometry.specs.Laws.Flip as flip
 use Rattle.geometry.specs.Laws.Nearest as nearly
 use Rattle.geometry.specs.Laws.Normal as normal
 use Rattle.geometry.specs.Laws.Numbering as numbering
-use Rattle.geometry.specs.Laws.Phases as phases
 use Rattle.geometry.specs.Laws.Rows as rows
 use Rattle.geometry.specs.Laws.Slope as slope
 use Rattle.geometry.specs.declared.Line.{Line}
@@ -502,47 +500,3 @@ flipped_phase l = refl
 -- a level line is its own negation
 pub flipped_level : (l : Line) → minor_of l.dx l.dy ≡ pos 0 → flipped l ≡ l
 flipped_level l e = flip.flipped_level l e
-
--- ---- all phases: document 02, wish 6, "the k segments". The segment of shape j goes as the line does from its j-th
--- step on: the q-th pixel of it, with its pixel o at m, is where the line in phase j lands at its step q that is at m
--- at its step o.
-
--- one major component on, the line has moved by the minor one
-pub nearest_period : (a b c : ℕ) → 1 ≤ a → nearest a b (c + a) ≡ nearest a b c + b
-nearest_period a b c h = phases.nearest_period a b c h
-
--- the line in another phase has the same vector and kind
-pub in_phase_sound : (l : Line) → Sound l → (i : ℕ) → Sound (in_phase l i)
-unfolding in_phase
-in_phase_sound l h i = record { forward = h.forward; slope = h.slope }
-
-pub in_phase_kind : (l : Line) (i : ℕ) → (in_phase l i).periodic ≡ l.periodic
-unfolding in_phase
-in_phase_kind l i = refl
-
--- a connected line's steps are the places of the major axis
-pub connected_step : (l : Line) → l.periodic ≡ false → (M : ℕ) → step_of l M ≡ M
-connected_step l e M = step_is l M ∙ ap (λ (p : ℕ). M / p) (period_connected l e) ∙ div-one M
-
-pub connected_major : (l : Line) → l.periodic ≡ false → (M s : ℕ) → major_at l M s ≡ s
-connected_major l e M s =
-    major_is l M s
-    ∙ ap (λ (p : ℕ). M % p + s * p) (period_connected l e)
-    ∙ ap₂ (λ (u v : ℕ). u + v) (mod-one M) (mul-one s)
-    ∙ zero-add s
-
--- the line in phase i that is at m at its step M goes on as the segment of shape j that has its pixel o at m, if M + i
--- and o + j differ by whole periods
-pub shape_same :
-    (l : Line) → Sound l → l.periodic ≡ false → (i j M o m s q : ℕ) → s + o ≡ M + q
-    → (M + i) % major_of l.dx l.dy ≡ (o + j) % major_of l.dx l.dy
-    → landing (in_phase l i) m M s ≡ landing (in_phase l j) m o q
-shape_same l h e i j M o m s q along same = phases.shape_same l h e i j M o m s q along same
-
--- and of k shapes, or phases, one does: whatever x and y are, one of the k numbers from y on differs from x by whole
--- periods
-abbrev pub Counted : ℕ → ℕ → ℕ → Type 0
-Counted k x y = phases.Counted k x y
-
-pub counted : (k x y : ℕ) → 1 ≤ k → Counted k x y
-counted k x y h = phases.counted k x y h

@@ -52,7 +52,3 @@ step_of l M = M / period l
 
 unfoldable pub major_at : Line → ℕ → ℕ → ℕ
 major_at l M s = M % period l + s * period l
-
--- the line of the same vector in another phase
-unfoldable pub in_phase : Line → ℕ → Line
-in_phase l i = record { periodic = l.periodic; dx = l.dx; dy = l.dy; phase = i }

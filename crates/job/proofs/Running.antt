@@ -5,7 +5,7 @@ use mathlib.Core.List.{List}
 use mathlib.Core.Logic.{by_cases}
 use Prim.Native.Nat.{ℕ, ◌+◌, ◌*◌, ◌≤◌}
 use native.Mathlib.Nat.{mul-le-mul_right}
-use native.Mathlib.Decide.{dec_le, dec_lt}
+use native.Mathlib.Decide.{dec_lt}
 use native.Mathlib.Omega.{arith}
 use lib.ListN.{length, get_or}
 use lib.Seq.{ext_get_or}
@@ -29,7 +29,7 @@ use Rattle.tray.specs.Laws.{length_cleared, cleared_below, cleared_above}
 use Rattle.tray.specs.Written.{written, cleared}
 use Rattle.filter.specs.Engine.{layout_of}
 use Rattle.filter.specs.Filters.{recipe_boxes}
-use Rattle.phases.specs.Promises.{Fits, Made}
+use Rattle.filter.specs.Promises.{Fits, Filtered}
 use Rattle.filter.specs.declared.Recipe.{Recipe}
 use Rattle.job.specs.Order.{recipe_of, white}
 use Rattle.judging.specs.Pages.{pages_of}
@@ -37,7 +37,7 @@ use Rattle.judging.specs.Judging.{judge_places}
 use Rattle.job.specs.Job.{finished_with, finished, job_work, answer, lengths, output_after, scratch_after}
 use Rattle.judging.specs.Pages.{job_scratch}
 use Rattle.job.specs.Finishing.{Unrefused, Finished, RanRead}
-use Rattle.judging.specs.Laws.{Stands, stands, pages_least, pages_all}
+use Rattle.judging.specs.Laws.{Stands, stands, pages_least}
 use Rattle.judging.specs.declared.Lengths.{Lengths}
 use Rattle.job.proofs.Orders.{segment_fair}
 
@@ -47,18 +47,6 @@ pub needed_as :
     (t : Ticket) (p : Placements) (pages n : ℕ) → pages ≡ pages_of t → n ≡ scratch_needed pages p.width p.height
     → n ≡ scratch_needed (pages_of t) p.width p.height
 needed_as t p pages n ep en = en ∙ ap (λ (k : ℕ). scratch_needed k p.width p.height) ep
-
--- for all phases at once it has room for three pages
-pages_three :
-    (t : Ticket) (p : Placements) → 5 ≤ t.operation
-    → p.width * p.height + p.width * p.height + p.width * p.height
-    ≤ scratch_needed (pages_of t) p.width p.height
-pages_three t p all =
-    omega (
-      arith,
-      scratch_pages (pages_of t) p.width p.height,
-      ap (λ (k : ℕ). k * (p.width * p.height)) (pages_all t all),
-    )
 
 -- ---- what the filter asks
 
@@ -83,10 +71,6 @@ module _ (t : Ticket) (p : Placements) (source output scratch : ℕ) (free : Unr
         mul-le-mul_right (p.width * p.height) (pages_least t),
       )
 
-  three_pages : 5 ≤ t.operation → p.width * p.height + p.width * p.height + p.width * p.height ≤ scratch
-  unfolding job_scratch
-  three_pages all = omega (arith, all_stands.room, pages_three t p all)
-
   pub used_room : (n : ℕ) → n ≡ scratch_needed (pages_of t) p.width p.height → n ≤ scratch
   unfolding job_scratch
   used_room n e = omega (arith, all_stands.room)
@@ -108,17 +92,19 @@ module _ (t : Ticket) (p : Placements) (source output scratch : ℕ) (free : Unr
     unfolding source_page output_page recipe_of
     fits_so =
         record {
-          segment = segment_fair t free.ticket;
-          operation_from = free.ticket.operation_from;
-          operation_to = free.ticket.operation_to;
-          count_most = free.ticket.count_to;
-          boxes = boxes_lie;
-          from_tray = all_stands.from;
+          enters =
+              record {
+                segment = segment_fair t free.ticket;
+                operation_from = free.ticket.operation_from;
+                operation_to = free.ticket.operation_to;
+                count_most = free.ticket.count_to;
+                boxes = boxes_lie;
+                from_tray = all_stands.from;
+                room = two_pages;
+              };
           to_tray = all_stands.to;
           same_width = refl;
           same_height = refl;
-          room = two_pages;
-          room_all = three_pages;
         }
 
     pub fits_all :
@@ -145,8 +131,7 @@ cleared_same n a b size room rest =
 module _ (t : Ticket) (white : ℕ) (p : Placements) (source output scratch after mid used : List ℕ) (work : ℕ) where
   finished_so :
       Unrefused t p (length source) (length output) (length scratch)
-      → Made (recipe_of t white) (source_page p) (output_page p) source output scratch after mid work
-      → used ≡ cleared (job_scratch t p) mid
+      → Filtered (recipe_of t white) (source_page p) (output_page p) source output scratch after mid work → used ≡ cleared (job_scratch t p) mid
       → Finished t white p source output scratch after used work
   unfolding finished_with job_work recipe_of source_page job_scratch
   finished_so free done clear =
@@ -155,10 +140,7 @@ module _ (t : Ticket) (white : ℕ) (p : Placements) (source output scratch afte
         used_is =
             clear
             ∙ cleared_same (job_scratch t p) mid scratch done.same_length (used_room t p _ _ _ free (job_scratch t p) refl)
-            (λ i h.
-            by_cases (dec_le t.operation 4)
-            (λ few. done.rest_one few i (room_past i h))
-            (λ all. done.rest i (all_past i h (omega arith))));
+            (λ i h. done.rest i (room_past i h));
         work_is = done.work_is;
       }
     where
@@ -170,22 +152,17 @@ module _ (t : Ticket) (white : ℕ) (p : Placements) (source output scratch afte
             mul-le-mul_right (p.width * p.height) (pages_least t),
           )
 
-      all_past :
-          (i : ℕ) → job_scratch t p ≤ i → 5 ≤ t.operation
-          → p.width * p.height + p.width * p.height + p.width * p.height ≤ i
-      all_past i h all = omega (arith, pages_three t p all)
-
   pub finished_all :
       Unrefused t p (length source) (length output) (length scratch) → (how : Recipe) (from to : Placement) (n : ℕ) → how ≡ recipe_of t white
       → from ≡ source_page p → to ≡ output_page p → n ≡ scratch_needed (pages_of t) p.width p.height
-      → Made how from to source output scratch after mid work → used ≡ cleared n mid
+      → Filtered how from to source output scratch after mid work → used ≡ cleared n mid
       → Finished t white p source output scratch after used work
   unfolding job_scratch
   finished_all free how from to n eh ef et en done clear =
       finished_so free
-      (subst (λ (h : Recipe). Made h (source_page p) (output_page p) source output scratch after mid work) eh
-      (subst (λ (f : Placement). Made how f (output_page p) source output scratch after mid work) ef
-      (subst (λ (g : Placement). Made how from g source output scratch after mid work) et done)))
+      (subst (λ (h : Recipe). Filtered h (source_page p) (output_page p) source output scratch after mid work) eh
+      (subst (λ (f : Placement). Filtered how f (output_page p) source output scratch after mid work) ef
+      (subst (λ (g : Placement). Filtered how from g source output scratch after mid work) et done)))
       (clear ∙ ap (λ (k : ℕ). cleared k mid) en)
 
 -- ---- the job of a ticket that was read

@@ -7,7 +7,7 @@ use Rattle.std.proofs.Math.Decide.{dec_le}
 use Rattle.vectors.specs.Vector.{major_of}
 use Rattle.geometry.specs.Drift as lines
 use Rattle.geometry.specs.Drift.{Sound}
-use Rattle.geometry.specs.Laws.{sound, allowed, phase_allowed_lem, major_larger}
+use Rattle.geometry.specs.Laws.{sound, allowed, phase_allowed_lem}
 use Rattle.refusal.specs.Answer.{is_done}
 use Rattle.refusal.specs.Chain.{◌then◌, then_work, done_work, when-done}
 use Rattle.refusal.specs.declared.Answer.{Answer}
@@ -25,8 +25,7 @@ use Rattle.tray.specs.Laws as tray
 use Rattle.tray.specs.Written.{written}
 use Rattle.filter.specs.Seen.{seen}
 use Rattle.filter.specs.Filters.{filtered, or_white, recipe_boxes, filtered_page}
-use Rattle.filter.specs.Phases.{each_from, each_to, each_one}
-use Rattle.job.specs.Order.{line_of, segment_of, recipe_of, ticket_in}
+use Rattle.job.specs.Order.{line_of, segment_of, recipe_of}
 use Rattle.judging.specs.Judging.{judge_places}
 use Rattle.judging.specs.Laws.{Stands, stands}
 use Rattle.job.specs.Job.{finished_with, finished, job_work, answer, lengths, output_after}
@@ -79,44 +78,6 @@ phase_below t ok =
 pub line_allowed : (t : Ticket) → Allowed t → lines.Allowed (line_of t)
 unfolding line_of
 line_allowed t ok = allowed (line_of t) ok.runs ok.dx_to ok.dy_to (phase_below t ok)
-
--- ---- one phase of a ticket
-
--- the phases of a ticket: as many as the larger component of its vector
-abbrev pub phases_in : Ticket → ℕ
-phases_in t = major_of t.dx t.dy
-
--- where there is one phase, its ticket is the ticket
-pub one_phase : (t : Ticket) → t.operation ≤ 4 → ticket_in t t.phase ≡ t
-unfolding ticket_in
-one_phase t few = rw (each_one t.operation few) refl
-
--- of all phases each has a ticket that may be read
-pub phase_ticket_allowed :
-    (t : Ticket) → Allowed t → 5 ≤ t.operation → (i : ℕ) → i < phases_in t → Allowed (ticket_in t i)
-unfolding ticket_in
-phase_ticket_allowed t ok all i below =
-    let line : t.line ≡ 1 = ok.all_connected all in
-    record {
-      operation_from = omega (arith, each_from t.operation all ok.operation_to);
-      operation_to = omega (arith, each_to t.operation all ok.operation_to);
-      line_from = ok.line_from;
-      line_to = ok.line_to;
-      runs = ok.runs;
-      dx_to = ok.dx_to;
-      dy_to = ok.dy_to;
-      connected_coprime = ok.connected_coprime;
-      length_from = ok.length_from;
-      length_to = ok.length_to;
-      origin_below = ok.origin_below;
-      connected_phase = λ e. omega (arith, below, major_larger t.dx t.dy ok.runs);
-      periodic_phase = λ e. absurd (omega (arith, line, e));
-      all_connected = λ h. line;
-      all_phase = λ h. absurd (omega (arith, h, each_to t.operation all ok.operation_to));
-      count_to = ok.count_to;
-      places = ok.places;
-      box_numbers_lem = ok.box_numbers_lem;
-    }
 
 -- the finished page is the filter of the ticket's segment, with white where a pixel is absent
 pub finished_is :

@@ -4,7 +4,6 @@ use Rattle.std.specs.Prelude.{ℕ}
 use Rattle.geometry.specs.declared.Line.{Line}
 use Rattle.ticket.specs.Judging.{is_periodic}
 use Rattle.ticket.specs.declared.Ticket.{Ticket}
-use Rattle.filter.specs.Phases.{each_phase}
 use Rattle.filter.specs.declared.Recipe.{Recipe}
 use Rattle.filter.specs.declared.Segment.{Segment}
 
@@ -15,22 +14,6 @@ line_of t = record { periodic = is_periodic t.line; dx = t.dx; dy = t.dy; phase 
 -- "segment length L", "origin o"
 unfoldable pub segment_of : Ticket → Segment
 segment_of t = record { line = line_of t; length = t.length; origin = t.origin }
-
--- the ticket of one phase: of operations 5 and 6 it orders the opening or closing in phase i; of an operation that has
--- one phase, and with that phase, it is the ticket itself
-unfoldable pub ticket_in : Ticket → ℕ → Ticket
-ticket_in t i =
-    record {
-      operation = each_phase t.operation;
-      line = t.line;
-      dx = t.dx;
-      dy = t.dy;
-      length = t.length;
-      origin = t.origin;
-      phase = i;
-      count = t.count;
-      boxes = t.boxes;
-    }
 
 -- the operation, the boxes, and how a hidden pixel comes out
 unfoldable pub recipe_of : Ticket → ℕ → Recipe

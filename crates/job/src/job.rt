@@ -5,10 +5,10 @@ ghost use Rattle.job.specs.Job.{lengths, answer, output_after, scratch_after};
 ghost use Rattle.job.specs.Finishing.{Unrefused, Finished, RanRead};
 
 use super::order::recipe_of;
+use filter::page::filter;
 use judging::Lengths;
 use judging::judge::judge;
 use judging::pages::pages_of;
-use phases::page::filter_page;
 use placement::{Placements, place};
 use refusal::Answer;
 use refusal::report::is_done;
@@ -33,7 +33,7 @@ fn finish(
     let how = recipe_of(t, white);
     let from = place::source_page(p);
     let to = place::output_page(p);
-    let work = filter_page(how, source, from, output, to, scratch);
+    let work = filter(how, source, from, output, to, scratch);
     let used = place::scratch_needed(pages_of(t), p.width, p.height);
     tray::paint::clear(scratch, used);
     work
@@ -66,8 +66,8 @@ pub fn run_read(
 }
 
 // The job. Every ticket, placement and buffer length gets an answer: a finished page and its comparisons, or the
-// first of the refusals 1 to 14 and 20. A refused job writes nothing. A finished one writes only its page, and leaves
-// the scratch it used at zero.
+// first of the fourteen refusals. A refused job writes nothing. A finished one writes only its page, and leaves the
+// scratch it used at zero.
 pub fn run(
     ticket: &[u8],
     p: Placements,

@@ -1,11 +1,10 @@
 // What a ticket orders of the filter.
 ghost use Rattle.std.specs.Prelude.{◌≡◌};
 ghost use Rattle.ticket.specs.Laws.{Allowed};
-ghost use Rattle.job.specs.Order.{line_of, ticket_in, recipe_of};
+ghost use Rattle.job.specs.Order.{line_of, recipe_of};
 
 use filter::{Recipe, Segment};
 use geometry::Line;
-use phases::operation::each_phase;
 use ticket::Ticket;
 
 // "line: 1 connected (Bresenham), 2 periodic"
@@ -22,16 +21,6 @@ pub fn line_of(t: Ticket) -> Line
         dy: t.dy,
         phase: t.phase,
     }
-}
-
-// The ticket of one phase: wish 6's operations are done in phase i.
-pub fn ticket_in(t: Ticket, i: usize) -> Ticket
-    ensures { result ≡ ticket_in t i }
-{
-    let mut one = t;
-    one.operation = each_phase(t.operation);
-    one.phase = i;
-    one
 }
 
 // The operation along the segment, the boxes, and how a hidden pixel comes out.

@@ -1,3 +1,2 @@
 mod Boxes
 mod Sides
-mod Needing

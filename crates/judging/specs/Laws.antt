@@ -1,16 +1,14 @@
 -- What a job that is not refused for its places may rely on, in plain facts: nobody above unfolds the judging.
 -- Assumes nothing.
-use Rattle.std.specs.Prelude.{◌≡◌, refl, Bool, true, false, ◌&&◌, cond, List, [], ◌∷◌, ℕ, zero, suc, ◌≤◌, ◌<◌, leb, length, get_or}
-use Rattle.std.proofs.Common.{sym, ap, ap₂, ◌∙◌, arith, leb-true, le-leb}
+use Rattle.std.specs.Prelude.{◌≡◌, refl, Bool, true, ◌&&◌, List, [], ◌∷◌, ℕ, zero, suc, ◌≤◌, ◌<◌, leb, length, get_or}
+use Rattle.std.proofs.Common.{sym, ap, ap₂, ◌∙◌, arith, leb-true}
 use Rattle.std.proofs.Math.Bool.{and-eq-true_iff}
-use Rattle.std.proofs.lemmas.Bool.{lt-leb}
 use Rattle.refusal.specs.Answer.{is_done}
 use Rattle.refusal.specs.Chain.{unless, ◌then◌, then_done, unless_done}
 use Rattle.refusal.specs.declared.Answer.{Answer}
 use Rattle.refusal.specs.declared.Answer.TheVariants.{Done}
 use Rattle.refusal.specs.declared.Refusal.TheVariants.{BadSides, SourceTooShort, OutputTooShort, ScratchTooShort}
 use Rattle.refusal.specs.declared.Refusal.TheVariants.{BadBox}
-use Rattle.ticket.specs.Judging.{takes_all_phases}
 use Rattle.ticket.specs.declared.HiddenBox.{HiddenBox}
 use Rattle.ticket.specs.declared.Ticket.{Ticket}
 use Rattle.boxes.specs.Boxes.{boxes_of, box_allowed}
@@ -24,31 +22,18 @@ use Rattle.judging.specs.declared.Lengths.{Lengths}
 
 -- ---- the pages in the scratch
 
--- two, or three where all phases are taken at once
-pub pages_few : (t : Ticket) → t.operation ≤ 4 → pages_of t ≡ 2
-unfolding pages_of takes_all_phases
-pages_few t few = ap (λ (b : Bool). cond b 3 2) (lt-leb 5 t.operation (omega arith))
-
-pub pages_all : (t : Ticket) → 5 ≤ t.operation → pages_of t ≡ 3
-unfolding pages_of takes_all_phases
-pages_all t all = ap (λ (b : Bool). cond b 3 2) (le-leb 5 t.operation all)
-
-two_or_three : (b : Bool) → (2 ≤ cond b 3 2) × (cond b 3 2 ≤ 3)
-two_or_three true = (omega arith, omega arith)
-two_or_three false = (omega arith, omega arith)
-
 pub pages_least : (t : Ticket) → 2 ≤ pages_of t
 unfolding pages_of
-pages_least t = (two_or_three (takes_all_phases t.operation)).0
+pages_least t = omega arith
 
 pub pages_most : (t : Ticket) → pages_of t ≤ 3
 unfolding pages_of
-pages_most t = (two_or_three (takes_all_phases t.operation)).1
+pages_most t = omega arith
 
 -- the operation alone says how many
 pub pages_by_operation : (t t' : Ticket) → t'.operation ≡ t.operation → pages_of t' ≡ pages_of t
 unfolding pages_of
-pages_by_operation t t' same = ap (λ (n : ℕ). cond (takes_all_phases n) 3 2) same
+pages_by_operation t t' same = refl
 
 -- ---- every box lies on the page
 

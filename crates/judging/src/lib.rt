@@ -3,7 +3,7 @@
 // what follows where nothing is refused.
 //
 //     judge    refusals 10 to 14, each a test of its own
-//     pages    what a job keeps in the scratch, and how much a ticket needs there
+//     pages    what a job keeps in the scratch
 pub mod judge;
 pub mod pages;
 

@@ -7,7 +7,6 @@ mod text;
 
 ghost use Rattle.std.specs.Prelude.{◌+◌, ◌<◌, ◌≤◌, length};
 
-use judging::pages::scratch_for;
 use libc::STDIN_FILENO;
 use placement::{Placements, Spot};
 use refusal::report;
@@ -42,12 +41,24 @@ fn area(w: usize, h: usize) -> usize
     w * h
 }
 
-// The scratch that the ticket needs for a page, or all 65,536 bytes of the buffer, which no page of so few pixels
-// needs. A refused ticket and a page with a zero side get none, and are refused before the job looks at its scratch.
-fn scratch_lent(ticket: &[u8], w: usize, h: usize) -> usize
+fn larger(a: usize, b: usize) -> usize
+    requires a_bound { a < 65536 }
+    requires b_bound { b < 65536 }
+    ensures { result < 65536 }
+{
+    if a < b { b } else { a }
+}
+
+// The scratch that a page needs, or all 65,536 bytes of the buffer. Only a page with a zero side can need more, as
+// any other has sides of 8192 at most, and it is refused for its sides before the job looks at its scratch: the
+// answer is the same.
+fn scratch_lent(w: usize, h: usize, pixels: usize) -> usize
+    requires w_bound { w < 65536 }
+    requires h_bound { h < 65536 }
+    requires pixels_bound { pixels ≤ 8192 }
     ensures { result ≤ 65536 }
 {
-    let needed = scratch_for(ticket, w, h);
+    let needed = 2 * pixels + 3 * larger(w, h);
     if needed < 65536 { needed } else { 65536 }
 }
 
@@ -90,7 +101,7 @@ fn lay_out(ticket: &[u8], w: usize, h: usize, pixels: usize, source: &[u8])
 {
     let mut output = io::large_buffer();
     let mut scratch = io::large_buffer();
-    let lent = scratch_lent(ticket, w, h);
+    let lent = scratch_lent(w, h, pixels);
     filter_page(
         ticket,
         w,

@@ -5,7 +5,7 @@ use native.Mathlib.Numerals.{add-one}
 use native.Mathlib.Omega.{arith}
 use mathlib.Core.Bool.{Bool, true, false, false≢true}
 use mathlib.Core.List.{List, [], ◌∷◌}
-use lib.ListN.{length, get_or}
+use lib.ListN.{length}
 use lib.Dec.{leb, eqb}
 use Rattle.refusal.specs.Answer.{is_done}
 use Rattle.refusal.specs.Chain.{unless, ◌then◌, then_stop, then_done, unless_done, when-refused}
@@ -26,17 +26,6 @@ use Rattle.pgm.specs.declared.fields.Field.{Field}
 use Rattle.pgm.specs.declared.fields.Fields.{Fields}
 use Rattle.pgm.proofs.Scans.{stands_first}
 use Rattle.pgm.proofs.Told.{told_fits, told_above, told_below}
-
--- the bytes `P5`
-pub magic_judged : (file : List ℕ) {p five : ℕ} {first second r : Answer}
-    → p ≡ get_or file 0 0
-    → first ≡ unless (eqb p 80) (Later BadHeader) 0
-    → five ≡ get_or file 1 0
-    → second ≡ unless (eqb five 53) (Later BadHeader) 1
-    → r ≡ (first then second)
-    → r ≡ judge_magic file
-unfolding judge_magic
-magic_judged file a b c d e = cc
 
 -- white space, then a digit
 pub number_judged : (file : List ℕ) (bytes : List Byte) {at first : ℕ} {s t : Bool} {spaced started r : Answer}

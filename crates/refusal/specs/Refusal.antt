@@ -4,7 +4,7 @@
 use Rattle.std.specs.Prelude.{ℕ}
 use Rattle.refusal.specs.declared.Later as later
 use Rattle.refusal.specs.declared.Later.TheVariants.{BadHeader, BadMaximum, BadPixel, TooManyJobs, PixelOffPage}
-use Rattle.refusal.specs.declared.Later.TheVariants.{PeriodicLine, NumbersTooFew}
+use Rattle.refusal.specs.declared.Later.TheVariants.{NumbersTooFew}
 use Rattle.refusal.specs.declared.Refusal.{Refusal}
 use Rattle.refusal.specs.declared.Refusal.TheVariants.{TicketEnds, WrongTag, WrongLength, Unknown}
 use Rattle.refusal.specs.declared.Refusal.TheVariants.{TooManyBoxes, BadVector, BadLength, BadOrigin, BadPhase}
@@ -12,15 +12,13 @@ use Rattle.refusal.specs.declared.Refusal.TheVariants.{BadSides, SourceTooShort,
 use Rattle.refusal.specs.declared.Refusal.TheVariants.{ScratchTooShort, BadBox, Later}
 
 -- wish 1: "Refusals: 15, bad header or maximum 0 (sides are 10's); 16, maximum above 255; 17, pixel above the maximum
--- or too few pixels"; wish 3: "Refusals: 18, more than 256 jobs"; wish 4: "Refusals: 19, pixel off the page"; wish 6:
--- "a periodic line is 20"
+-- or too few pixels"; wish 3: "Refusals: 18, more than 256 jobs"; wish 4: "Refusals: 19, pixel off the page"
 abbrev pub later_number : later.Later → ℕ
 later_number BadHeader = 15
 later_number BadMaximum = 16
 later_number BadPixel = 17
 later_number TooManyJobs = 18
 later_number PixelOffPage = 19
-later_number PeriodicLine = 20
 later_number NumbersTooFew = 100
 
 abbrev pub refusal_number : Refusal → ℕ

@@ -34,7 +34,6 @@ pub enum Later {
     BadPixel, // pixel above the maximum, or too few pixels
     TooManyJobs, // more than 256 jobs
     PixelOffPage, // pixel off the page
-    PeriodicLine, // a periodic line, whose phases cannot be taken together
     NumbersTooFew, // ours, 100, of every call that is lent a buffer of numbers: the buffer is too short
 }
 

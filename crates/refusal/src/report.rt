@@ -15,7 +15,6 @@ fn later_number(r: Later) -> usize
         Later::BadPixel => 17,
         Later::TooManyJobs => 18,
         Later::PixelOffPage => 19,
-        Later::PeriodicLine => 20,
         Later::NumbersTooFew => 100,
     }
 }

@@ -8,8 +8,8 @@ use Rattle.fields.specs.Fields.{byte_at, number_at, signed16, signed_at, operati
 use Rattle.fields.specs.Fields.{origin_in, phase_in, field_end}
 use Rattle.ticket.specs.Boxes.{box_at, boxes_from, boxes_in}
 use Rattle.ticket.specs.Judging.{judge_head, judge_size, judge_field, operation_known, line_known, is_periodic, length_allowed}
-use Rattle.ticket.specs.Judging.{origin_allowed, takes_all_phases, line_taken, phase_taken, judge_operation, judge_line}
-use Rattle.ticket.specs.Judging.{judge_vector, judge_length, judge_origin, judge_phase, judge_box, judge_boxes, judged}
+use Rattle.ticket.specs.Judging.{origin_allowed, judge_operation, judge_line, judge_vector, judge_length, judge_origin}
+use Rattle.ticket.specs.Judging.{judge_phase, judge_box, judge_boxes, judged}
 use Rattle.fields.specs.Vectors.{divided, coprime, vector_allowed, phase_allowed}
 use Rattle.ticket.specs.Reading.{blank, box_places, shown, reading}
 use Rattle.showing.specs.Shown.{word_of, box_numbers, read_outcome, numbers_after}
@@ -24,11 +24,7 @@ opening =
 -- in a buffer one number longer than needed, which keeps that number
 shows : numbers_after opening (replicate 265 7)
     ≡ 3 ∷ 1 ∷ 3 ∷ 18446744073709551614 ∷ 2 ∷ 1 ∷ 0 ∷ 1 ∷ 6 ∷ 3 ∷ 256 ∷ 1 ∷ (replicate 252 0 ++ (7 ∷ []))
-unfolding shallow steep byte_at number_at signed16 signed_at operation_in line_in dx_in dy_in length_in origin_in phase_in
-    field_end box_at boxes_from boxes_in unless ◌then◌ judge_head judge_size judge_field operation_known line_known is_periodic
-    takes_all_phases line_taken phase_taken divided coprime vector_allowed length_allowed origin_allowed phase_allowed
-    judge_operation judge_line judge_vector judge_length judge_origin judge_phase judge_box judge_boxes judged blank box_places
-    shown whenDone reading word_of box_numbers numbers_after
+unfolding shallow steep byte_at number_at signed16 signed_at operation_in line_in dx_in dy_in length_in origin_in phase_in field_end box_at boxes_from boxes_in unless ◌then◌ judge_head judge_size judge_field operation_known line_known is_periodic divided coprime vector_allowed length_allowed origin_allowed phase_allowed judge_operation judge_line judge_vector judge_length judge_origin judge_phase judge_box judge_boxes judged blank box_places shown whenDone reading word_of box_numbers numbers_after
 shows = refl
 
 -- an empty ticket: refusal 1, and zeros; a buffer one number short: refusal 100, and nothing written

@@ -6,9 +6,9 @@ use Rattle.std.specs.Prelude.{◌≡◌, refl, ℕ, ◌+◌, ◌*◌}
 abbrev pub version_number : ℕ → ℕ → ℕ → ℕ
 version_number major minor patch = 1000000 * major + 1000 * minor + patch
 
--- 0.7.0
+-- 0.6.0
 abbrev pub version : ℕ
-version = version_number 0 7 0
+version = version_number 0 6 0
 
-pub version_is : version ≡ 7000
+pub version_is : version ≡ 6000
 version_is = refl

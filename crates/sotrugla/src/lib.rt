@@ -8,8 +8,7 @@ pub mod reasons; // reasons.rt: why a pixel came out so
 ghost use Rattle.std.specs.Prelude.{◌≡◌, length};
 ghost use Rattle.job.specs.Job.{lengths, answer, output_after, scratch_after};
 ghost use Rattle.showing.specs.Shown.{read_outcome, numbers_after};
-ghost use Rattle.judging.specs.Pages.{scratch_for};
-ghost use Rattle.sotrugla.specs.Pages.{placements_of};
+ghost use Rattle.sotrugla.specs.Pages.{placements_of, scratch_for};
 ghost use Rattle.showing.specs.Outcome.{outcome_of};
 ghost use Rattle.sotrugla.specs.Hiding.{hidden_by};
 ghost use Rattle.sotrugla.specs.Version.{version};
@@ -80,13 +79,21 @@ pub extern "C" fn sotrugla_run(
     outcome_of(job::job::run(ticket, at, source, output, scratch))
 }
 
-// How many bytes of scratch the ticket needs for a page of these sides; 0 where a side is beyond its limits or the
-// ticket is refused.
+// How many pages a job keeps in the scratch.
+const JOB_PAGES: usize = 2;
+
+// How many bytes of scratch a page of these sides needs; 0 where a side is beyond its limits.
 #[unsafe(no_mangle)]
-pub extern "C" fn sotrugla_scratch_needed(ticket: &[u8], width: usize, height: usize) -> usize
-    ensures { result ≡ scratch_for ticket.now width height }
+pub extern "C" fn sotrugla_scratch_needed(width: usize, height: usize) -> usize
+    ensures { result ≡ scratch_for width height }
 {
-    judging::pages::scratch_for(ticket, width, height)
+    if !placement::place::is_side(width) {
+        return 0;
+    }
+    if !placement::place::is_side(height) {
+        return 0;
+    }
+    placement::place::scratch_needed(JOB_PAGES, width, height)
 }
 
 // Reads a ticket alone into a buffer of 264 numbers, which hosts take for signed ones: a negative one stands there
@@ -118,8 +125,8 @@ pub extern "C" fn sotrugla_is_hidden(ticket: &[u8], column: usize, row: usize) -
     if hidden { 1 } else { 0 }
 }
 
-// 0.7.0: a million for the major number, a thousand for the minor one, one for the patch.
-const VERSION: u64 = 7000;
+// 0.6.0: a million for the major number, a thousand for the minor one, one for the patch.
+const VERSION: u64 = 6000;
 
 // The version of the library that runs, which need not be that of the header that a host was built with.
 #[unsafe(no_mangle)]

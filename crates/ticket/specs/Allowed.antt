@@ -1,6 +1,5 @@
 -- What a caller may rely on when a ticket was read, in plain facts about numbers: nobody above unfolds the judging.
--- That it holds is `good-allowed` and `read-allowed` (Laws). Document 01, 'The ticket', and document 02, wish 6:
--- the limits of each field.
+-- That it holds is `good-allowed` and `read-allowed` (Laws). Document 01, 'The ticket': the limits of each field.
 -- Assumes nothing.
 use Rattle.std.specs.Prelude.{◌≡◌, ℕ, ◌<◌, ◌≤◌, max, true, ◌||◌, List, length, get_or, nat_abs}
 use Rattle.vectors.specs.Vector.{shallow, steep}
@@ -19,7 +18,7 @@ pub record TwoBytes (b : HiddenBox) : Type 0 where
 -- the fields of a ticket that was read
 pub record Allowed (t : Ticket) : Type 0 where
   pub operation_from : 1 ≤ t.operation
-  pub operation_to : t.operation ≤ 6
+  pub operation_to : t.operation ≤ 4
   pub line_from : 1 ≤ t.line
   pub line_to : t.line ≤ 2
   pub runs : (shallow t.dx t.dy || steep t.dx t.dy) ≡ true
@@ -31,8 +30,6 @@ pub record Allowed (t : Ticket) : Type 0 where
   pub origin_below : t.origin < t.length
   pub connected_phase : t.line ≡ 1 → t.phase < max (nat_abs t.dx) (nat_abs t.dy)
   pub periodic_phase : t.line ≡ 2 → t.phase ≡ 0
-  pub all_connected : 5 ≤ t.operation → t.line ≡ 1
-  pub all_phase : 5 ≤ t.operation → t.phase ≡ 0
   pub count_to : t.count ≤ 64
   pub places : length t.boxes ≡ 64
   pub box_numbers_lem : (k : ℕ) → TwoBytes (get_or t.boxes k no_box)

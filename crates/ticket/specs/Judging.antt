@@ -1,19 +1,14 @@
 -- Document 01, 'Refusals and what they return': "Fields are judged one by one: head complete (1), tag (2), 65th box
--- (5), length (3), value complete (1), value (4, 6, 7, 8, 9)."; document 02, wish 6: 20 is "judged at tag 2". The place
--- of every refusal of a ticket is the head of the field at fault: "The place of a head is its byte index; where bytes
--- end before a head, it is the index where the head would start." A judgement that finds nothing to refuse is done,
--- with no work.
+-- (5), length (3), value complete (1), value (4, 6, 7, 8, 9)." The place of every refusal of a ticket is the head of
+-- the field at fault: "The place of a head is its byte index; where bytes end before a head, it is the index where
+-- the head would start." A judgement that finds nothing to refuse is done, with no work.
 -- Assumes nothing.
-use Rattle.std.specs.Prelude.{ℕ, zero, suc, ◌+◌, Bool, not, ◌&&◌, ◌||◌, cond, List, length, ltb, leb, eqb}
+use Rattle.std.specs.Prelude.{ℕ, zero, suc, ◌+◌, Bool, ◌&&◌, cond, List, length, ltb, leb, eqb}
 use Rattle.refusal.specs.Chain.{unless, ◌then◌}
 use Rattle.refusal.specs.declared.Answer.{Answer}
 use Rattle.refusal.specs.declared.Answer.TheVariants.{Done}
-use Rattle.refusal.specs.declared.Later.TheVariants.{PeriodicLine}
-use Rattle.refusal.specs.declared.Refusal.TheVariants.{TicketEnds, WrongTag, WrongLength, Unknown, TooManyBoxes}
-use Rattle.refusal.specs.declared.Refusal.TheVariants.{BadVector, BadLength, BadOrigin, BadPhase, Later}
-use Rattle.fields.specs.Fields.{head_bytes, byte_at, number_at, operation_head, line_head, vector_head, length_head}
-use Rattle.fields.specs.Fields.{origin_head, phase_head, first_box, field_end, most_boxes, operation_in, line_in, dx_in, dy_in}
-use Rattle.fields.specs.Fields.{length_in, origin_in, phase_in}
+use Rattle.refusal.specs.declared.Refusal.TheVariants.{TicketEnds, WrongTag, WrongLength, Unknown, TooManyBoxes, BadVector, BadLength, BadOrigin, BadPhase}
+use Rattle.fields.specs.Fields.{head_bytes, byte_at, number_at, operation_head, line_head, vector_head, length_head, origin_head, phase_head, first_box, field_end, most_boxes, operation_in, line_in, dx_in, dy_in, length_in, origin_in, phase_in}
 use Rattle.fields.specs.Vectors.{vector_allowed, phase_allowed}
 
 -- | 1 | ticket ends in a field, or before one of tags 1 to 6 |, | 2 | a tag other than the one due |
@@ -31,9 +26,9 @@ judge_size s at size =
 unfoldable pub judge_field : List ℕ → ℕ → ℕ → ℕ → Answer
 judge_field s at tag size = judge_head s at tag then judge_size s at size
 
--- | 4 | unknown operation or line |; document 02, wish 6: "Add operation 5 .. and 6"
+-- | 4 | unknown operation or line |
 unfoldable pub operation_known : ℕ → Bool
-operation_known n = leb 1 n && leb n 6
+operation_known n = leb 1 n && leb n 4
 
 unfoldable pub line_known : ℕ → Bool
 line_known n = leb 1 n && leb n 2
@@ -41,18 +36,6 @@ line_known n = leb 1 n && leb n 2
 -- a line of kind 2 is periodic
 unfoldable pub is_periodic : ℕ → Bool
 is_periodic n = eqb n 2
-
--- wish 6: operations 5 and 6 take all phases at once
-unfoldable pub takes_all_phases : ℕ → Bool
-takes_all_phases n = leb 5 n
-
--- with these "Phase must be 0 and the line connected.": | 20 | a periodic line |
-unfoldable pub line_taken : ℕ → ℕ → Bool
-line_taken operation line = not (takes_all_phases operation && is_periodic line)
-
--- and | 9 | phase not allowed |
-unfoldable pub phase_taken : ℕ → ℕ → Bool
-phase_taken operation i = not (takes_all_phases operation) || eqb i 0
 
 -- | 7 | L is 0 or above 8192 |
 unfoldable pub length_allowed : ℕ → Bool
@@ -67,10 +50,7 @@ unfoldable pub judge_operation : List ℕ → Answer
 judge_operation s = judge_field s operation_head 1 1 then unless (operation_known (operation_in s)) Unknown operation_head
 
 unfoldable pub judge_line : List ℕ → Answer
-judge_line s =
-    judge_field s line_head 2 1
-    then unless (line_known (line_in s)) Unknown line_head
-    then unless (line_taken (operation_in s) (line_in s)) (Later PeriodicLine) line_head
+judge_line s = judge_field s line_head 2 1 then unless (line_known (line_in s)) Unknown line_head
 
 unfoldable pub judge_vector : List ℕ → Answer
 judge_vector s =
@@ -87,7 +67,6 @@ unfoldable pub judge_phase : List ℕ → Answer
 judge_phase s =
     judge_field s phase_head 6 2
     then unless (phase_allowed (is_periodic (line_in s)) (dx_in s) (dy_in s) (phase_in s)) BadPhase phase_head
-    then unless (phase_taken (operation_in s) (phase_in s)) BadPhase phase_head
 
 -- | 5 | a 65th box |, judged behind the tag and before the length; a box's numbers are judged with the page
 unfoldable pub judge_box : List ℕ → ℕ → ℕ → Answer

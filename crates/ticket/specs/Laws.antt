@@ -6,7 +6,6 @@ use Rattle.std.proofs.Common.{ap, ◌∙◌, arith, ltb-true, leb-true, eqb-true
 use Rattle.std.proofs.Math.Path.{ap₂}
 use Rattle.std.proofs.Math.Logic.{by_cases}
 use Rattle.std.proofs.Math.Decide.{dec_le}
-use Rattle.std.proofs.lemmas.Bool.{eqb-false, not-true}
 use Rattle.std.proofs.Math.Bool.{not, ◌&&◌, cond}
 use Rattle.std.proofs.lemmas.List.{length-replicate}
 use Rattle.std.proofs.Math.Seq.{take-append_seam}
@@ -16,14 +15,12 @@ use Rattle.refusal.specs.Answer.{is_done}
 use Rattle.refusal.specs.Chain.{unless, ◌then◌, then_done, unless_done, when-done, when-refused}
 use Rattle.refusal.specs.declared.Answer.{Answer}
 use Rattle.refusal.specs.declared.Refusal.{Refusal}
-use Rattle.refusal.specs.declared.Later.TheVariants.{PeriodicLine}
-use Rattle.refusal.specs.declared.Refusal.TheVariants.{Unknown, BadVector, BadLength, BadOrigin, BadPhase, Later}
+use Rattle.refusal.specs.declared.Refusal.TheVariants.{Unknown, BadVector, BadLength, BadOrigin, BadPhase}
 use Rattle.fields.specs.Fields.{byte_at, number_at, first_box, field_end, operation_in, line_in, dx_in, dy_in, length_in}
 use Rattle.fields.specs.Fields.{origin_in, phase_in}
 use Rattle.ticket.specs.Boxes.{box_at, boxes_from, boxes_in}
 use Rattle.fields.specs.Vectors.{divided, coprime, vector_allowed, phase_allowed}
-use Rattle.ticket.specs.Judging.{operation_known, line_known, is_periodic, takes_all_phases, line_taken, phase_taken}
-use Rattle.ticket.specs.Judging.{length_allowed, origin_allowed, judge_field}
+use Rattle.ticket.specs.Judging.{operation_known, line_known, is_periodic, length_allowed, origin_allowed, judge_field}
 use Rattle.ticket.specs.Judging.{judge_operation, judge_line, judge_vector, judge_length, judge_origin, judge_phase}
 use Rattle.ticket.specs.Judging.{judge_boxes, judged}
 use Rattle.ticket.specs.Reading.{no_box, blank, box_places, shown, reading}
@@ -44,14 +41,6 @@ between lo n hi h =
 value : (field : Answer) (test : Bool) (refusal : Refusal) (at : ℕ)
     → is_done (field then unless test refusal at) ≡ true → test ≡ true
 value field test refusal at h = unless_done test refusal at (then_done field (unless test refusal at) h).1
-
--- the same of a value with two rules
-values : (field : Answer) (one two : Bool) (refusal other : Refusal) (at : ℕ)
-    → is_done (field then unless one refusal at then unless two other at) ≡ true → (one ≡ true) × (two ≡ true)
-values field one two refusal other at h =
-    let rules = (then_done field (unless one refusal at then unless two other at) h).1 in
-    let each = then_done (unless one refusal at) (unless two other at) rules in
-    (unless_done one refusal at each.0, unless_done two other at each.1)
 
 number_small : (s : List ℕ) (at : ℕ) → Bytes s → number_at s at < 65536
 unfolding number_at byte_at
@@ -157,20 +146,6 @@ all_good s good =
       boxes = phase.1;
     }
 
--- what an operation that takes all phases takes: a line of kind 1, and phase 0
-not_both : (a b : Bool) → not (a && b) ≡ true → a ≡ true → b ≡ false
-not_both a b h e = not-true b (rw e at h)
-
-taken_line : (n line : ℕ) → line_taken n line ≡ true → line ≤ 2 → 1 ≤ line → 5 ≤ n → line ≡ 1
-unfolding line_taken takes_all_phases is_periodic
-taken_line n line h most least all =
-    let other = eqb-false line 2 (not_both (leb 5 n) (eqb line 2) h (le-leb 5 n all)) in
-    by_cases (dec_le line 1) (λ k. omega arith) (λ k. absurd (other (omega arith)))
-
-taken_phase : (n i : ℕ) → phase_taken n i ≡ true → 5 ≤ n → i ≡ 0
-unfolding phase_taken takes_all_phases
-taken_phase n i h all = eqb-true i 0 (rw (le-leb 5 n all) at h)
-
 -- a connected line's vector and phase, and a periodic line's phase
 connected : {line : ℕ} → line ≡ 1 → is_periodic line ≡ false
 unfolding is_periodic
@@ -201,18 +176,13 @@ good_allowed s bytes good =
     let runs = shallow (dx_in s) (dy_in s) || steep (dx_in s) (dy_in s) in
     let small = leb (nat_abs (dx_in s)) 255 && leb (nat_abs (dy_in s)) 255 in
     let apart = p || coprime (dx_in s) (dy_in s) in
-    let operation = between 1 (operation_in s) 6 (value (judge_field s 0 1 1) _ Unknown 0 g.operation) in
-    let lines =
-    values (judge_field s 4 2 1) _ (line_taken (operation_in s) (line_in s)) Unknown (Later PeriodicLine) 4 g.line in
-    let line = between 1 (line_in s) 2 lines.0 in
+    let operation = between 1 (operation_in s) 4 (value (judge_field s 0 1 1) _ Unknown 0 g.operation) in
+    let line = between 1 (line_in s) 2 (value (judge_field s 4 2 1) _ Unknown 4 g.line) in
     let vector = both (runs && small) apart (value (judge_field s 8 3 4) _ BadVector 8 g.vector) in
     let slope = both runs small vector.0 in
     let sizes = both (leb (nat_abs (dx_in s)) 255) (leb (nat_abs (dy_in s)) 255) slope.1 in
     let reach = between 1 (length_in s) 8192 (value (judge_field s 15 4 2) _ BadLength 15 g.length) in
-    let phases =
-    values (judge_field s 25 6 2) (phase_allowed p (dx_in s) (dy_in s) (phase_in s))
-    (phase_taken (operation_in s) (phase_in s)) BadPhase BadPhase 25 g.phase in
-    let phase = phases.0 in
+    let phase = value (judge_field s 25 6 2) (phase_allowed p (dx_in s) (dy_in s) (phase_in s)) BadPhase 25 g.phase in
     record {
       operation_from = operation.0;
       operation_to = operation.1;
@@ -227,8 +197,6 @@ good_allowed s bytes good =
       origin_below = ltb-true (origin_in s) (length_in s) (value (judge_field s 20 5 2) _ BadOrigin 20 g.origin);
       connected_phase = λ e. connected_below p (dx_in s) (dy_in s) (phase_in s) phase (connected e);
       periodic_phase = λ e. periodic_zero p (dx_in s) (dy_in s) (phase_in s) phase (periodic e);
-      all_connected = λ all. taken_line (operation_in s) (line_in s) lines.1 line.1 line.0 all;
-      all_phase = λ all. taken_phase (operation_in s) (phase_in s) phases.1 all;
       count_to = boxes_few s;
       places = places_length (boxes_in s) (boxes_few s);
       box_numbers_lem = λ k. places_small s k bytes;

@@ -8,33 +8,27 @@ use Rattle.fields.specs.Fields.{origin_in, phase_in, field_end}
 use Rattle.ticket.specs.Boxes.{box_at, boxes_from, boxes_in}
 use Rattle.fields.specs.Vectors.{divided, coprime, vector_allowed, phase_allowed}
 use Rattle.ticket.specs.Judging.{judge_head, judge_size, judge_field, operation_known, line_known, is_periodic}
-use Rattle.ticket.specs.Judging.{takes_all_phases, line_taken, phase_taken}
 use Rattle.ticket.specs.Judging.{length_allowed, origin_allowed, judge_operation, judge_line, judge_vector}
 use Rattle.ticket.specs.Judging.{judge_length, judge_origin, judge_phase, judge_box, judge_boxes, judged}
 use Rattle.ticket.specs.declared.HiddenBox.{HiddenBox}
 use Rattle.refusal.specs.Chain.{unless, ◌then◌}
 use Rattle.refusal.specs.declared.Answer.{Answer}
 use Rattle.refusal.specs.declared.Answer.TheVariants.{Done, Refused}
-use Rattle.refusal.specs.declared.Later.TheVariants.{PeriodicLine}
 use Rattle.refusal.specs.declared.Refusal.TheVariants.{TicketEnds, TooManyBoxes, WrongLength, BadVector, BadLength}
-use Rattle.refusal.specs.declared.Refusal.TheVariants.{BadOrigin, BadPhase, Unknown, Later}
+use Rattle.refusal.specs.declared.Refusal.TheVariants.{BadOrigin, BadPhase}
 
 record Case : Type 0 where
   ticket : List ℕ
   answer : Answer
 
--- a ticket without boxes: operation and line, then dx, dy, L, o and phase as two bytes each
-abbrev ordered : ℕ → ℕ → List ℕ → List ℕ → List ℕ → List ℕ → List ℕ → List ℕ
-ordered operation line dx dy l o i =
-    1 ∷ 0 ∷ 1 ∷ operation ∷ 2 ∷ 0 ∷ 1 ∷ line ∷ 3 ∷ 0 ∷ 4 ∷ dx
+-- a ticket without boxes: line, then dx, dy, L, o and phase as two bytes each
+abbrev plain : ℕ → List ℕ → List ℕ → List ℕ → List ℕ → List ℕ → List ℕ
+plain line dx dy l o i =
+    1 ∷ 0 ∷ 1 ∷ 1 ∷ 2 ∷ 0 ∷ 1 ∷ line ∷ 3 ∷ 0 ∷ 4 ∷ dx
     ++ dy
     ++ (4 ∷ 0 ∷ 2 ∷ l)
     ++ (5 ∷ 0 ∷ 2 ∷ o)
     ++ (6 ∷ 0 ∷ 2 ∷ i)
-
--- one that orders an erosion
-abbrev plain : ℕ → List ℕ → List ℕ → List ℕ → List ℕ → List ℕ → List ℕ
-plain line dx dy l o i = ordered 1 line dx dy l o i
 
 abbrev two : ℕ → ℕ → List ℕ
 two a b = a ∷ b ∷ []
@@ -53,10 +47,6 @@ boxes (suc n) = box 1 ++ boxes n
 abbrev with_boxes : List ℕ → List ℕ
 with_boxes fields = plain 1 (two 0 1) (two 0 0) (two 0 2) (two 0 0) (two 0 0) ++ fields
 
--- an operation along a line of (3, 1) with this phase
-abbrev in_all : ℕ → ℕ → ℕ → List ℕ
-in_all operation line i = ordered operation line (two 0 3) (two 0 1) (two 0 2) (two 0 0) (two 0 i)
-
 abbrev cases : List Case
 cases =
     record { ticket = []; answer = Refused TicketEnds 0 }
@@ -73,22 +63,10 @@ cases =
     ∷ record { ticket = with_boxes (box 1 ++ longer 2); answer = Refused WrongLength 41 }
     ∷ record { ticket = with_boxes (boxes 64); answer = Done 0 }
     ∷ record { ticket = with_boxes (boxes 65); answer = Refused TooManyBoxes 734 }
-    ∷ record { ticket = in_all 5 1 0; answer = Done 0 }
-    ∷ record { ticket = in_all 6 1 0; answer = Done 0 }
-    ∷ record { ticket = in_all 7 1 0; answer = Refused Unknown 0 }
-    ∷ record { ticket = in_all 5 2 0; answer = Refused (Later PeriodicLine) 4 }
-    ∷ record { ticket = in_all 6 2 0; answer = Refused (Later PeriodicLine) 4 }
-    ∷ record { ticket = in_all 4 2 0; answer = Done 0 }
-    ∷ record { ticket = in_all 5 3 0; answer = Refused Unknown 4 }
-    ∷ record { ticket = in_all 5 1 2; answer = Refused BadPhase 25 }
-    ∷ record { ticket = in_all 3 1 2; answer = Done 0 }
     ∷ []
 
 worked : map (λ (c : Case). judged c.ticket) cases ≡ map (λ (c : Case). c.answer) cases
-unfolding shallow steep byte_at number_at signed16 signed_at operation_in line_in dx_in dy_in length_in origin_in phase_in
-    field_end unless ◌then◌ judge_head judge_size judge_field operation_known line_known is_periodic takes_all_phases line_taken
-    phase_taken divided coprime vector_allowed length_allowed origin_allowed phase_allowed judge_operation judge_line
-    judge_vector judge_length judge_origin judge_phase judge_box judge_boxes judged
+unfolding shallow steep byte_at number_at signed16 signed_at operation_in line_in dx_in dy_in length_in origin_in phase_in field_end unless ◌then◌ judge_head judge_size judge_field operation_known line_known is_periodic divided coprime vector_allowed length_allowed origin_allowed phase_allowed judge_operation judge_line judge_vector judge_length judge_origin judge_phase judge_box judge_boxes judged
 worked = refl
 
 abbrev square : ℕ → HiddenBox

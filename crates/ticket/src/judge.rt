@@ -4,7 +4,6 @@
 ghost use Rattle.std.specs.Prelude.{◌≡◌, ◌<◌};
 ghost use Rattle.fields.specs.Fields.{first_box};
 ghost use Rattle.ticket.specs.Judging.{judge_head, judge_size, judge_field, operation_known, line_known, is_periodic};
-ghost use Rattle.ticket.specs.Judging.{takes_all_phases, line_taken, phase_taken};
 ghost use Rattle.ticket.specs.Judging.{length_allowed, origin_allowed, judge_operation, judge_line, judge_vector};
 ghost use Rattle.ticket.specs.Judging.{judge_length, judge_origin, judge_phase, judge_box, judge_boxes, judged};
 
@@ -14,13 +13,10 @@ use fields::value::{
 };
 use fields::vector;
 use refusal::chain::{first_refusal, refuse_unless};
-use refusal::{Answer, Later, Refusal, report};
+use refusal::{Answer, Refusal, report};
 
-// The limits of document 01: the operations from 1 on, the lines 1 connected and 2 periodic, L to 8192; and of document
-// 02: operation 5 and 6, the last, take all phases.
-const FIRST_IN_ALL_PHASES: u8 = 5;
-
-const LAST_OPERATION: u8 = 6;
+// The limits of document 01: the operations 1 erode to 4 close, the lines 1 connected and 2 periodic, L to 8192.
+const LAST_OPERATION: u8 = 4;
 
 const PERIODIC: u8 = 2;
 
@@ -80,25 +76,6 @@ fn is_periodic(n: u8) -> bool
     n == PERIODIC
 }
 
-// Operations 5 and 6 take all phases of a connected line, which is ordered with phase 0.
-fn takes_all_phases(operation: u8) -> bool
-    ensures { result ≡ takes_all_phases operation }
-{
-    FIRST_IN_ALL_PHASES <= operation
-}
-
-fn line_taken(operation: u8, line: u8) -> bool
-    ensures { result ≡ line_taken operation line }
-{
-    !(takes_all_phases(operation) & is_periodic(line))
-}
-
-fn phase_taken(operation: u8, phase: u16) -> bool
-    ensures { result ≡ phase_taken operation phase }
-{
-    !takes_all_phases(operation) | (phase == 0)
-}
-
 fn length_allowed(l: u16) -> bool
     ensures { result ≡ length_allowed l }
 {
@@ -125,15 +102,10 @@ fn judge_operation(s: &[u8]) -> Answer
 fn judge_line(s: &[u8]) -> Answer
     ensures { result ≡ judge_line s.now }
 {
-    let line = fields::value::line_in(s);
-    let known = line_known(line);
-    let taken = line_taken(fields::value::operation_in(s), line);
+    let known = line_known(fields::value::line_in(s));
     first_refusal(
         judge_field(s, LINE_HEAD, 2, 1),
-        first_refusal(
-            refuse_unless(known, Refusal::Unknown, LINE_HEAD),
-            refuse_unless(taken, Refusal::Later(Later::PeriodicLine), LINE_HEAD),
-        ),
+        refuse_unless(known, Refusal::Unknown, LINE_HEAD),
     )
 }
 
@@ -176,20 +148,15 @@ fn judge_phase(s: &[u8]) -> Answer
     ensures { result ≡ judge_phase s.now }
 {
     let periodic = is_periodic(fields::value::line_in(s));
-    let phase = fields::value::phase_in(s);
     let allowed = vector::phase_allowed(
         periodic,
         fields::value::dx_bits(s),
         fields::value::dy_bits(s),
-        phase,
+        fields::value::phase_in(s),
     );
-    let taken = phase_taken(fields::value::operation_in(s), phase);
     first_refusal(
         judge_field(s, PHASE_HEAD, 6, 2),
-        first_refusal(
-            refuse_unless(allowed, Refusal::BadPhase, PHASE_HEAD),
-            refuse_unless(taken, Refusal::BadPhase, PHASE_HEAD),
-        ),
+        refuse_unless(allowed, Refusal::BadPhase, PHASE_HEAD),
     )
 }
 

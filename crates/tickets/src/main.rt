@@ -2,8 +2,8 @@
 // and prints a line for each: `ticket OP LINE DX DY L O PHASE COUNT` and its boxes as `left,top,width,height`, or
 // `refused N at P`. Where the list ends inside an entry the last line is `cut`.
 //
-// The list in `stdin` is made by hand, 326 tickets in this order:
-// - operations and lines, known and unknown, and what operations 5 and 6 take of lines and phases;
+// The list in `stdin` is made by hand, 318 tickets in this order:
+// - operations and lines, known and unknown;
 // - 49 vectors, each connected, then each periodic: (0, 0), the units, (2, 2), 255 and one past it, 0x8000 as a sign;
 // - L at 0, 1, 8192, 8193 and others, o at L - 1 and at L, phases at their limit and one past it;
 // - every truncation of a ticket with one box, and the same ticket with bytes too many;
@@ -11,8 +11,8 @@
 // - boxes at their limits, 63 and 64 of them;
 // - the last places: the 65th box, with a right and a wrong length and cut short, and the 64th.
 // It ends inside an entry. Each refusal stands at its first and at its last possible place: 1 and 2 at 0 and 734, 3
-// at 0 and 723, 4 at 0 and 4, 5 at 734, 6 at 8, 7 at 15, 8 at 20, 9 at 25, 20 at 4. `stdout` comes from a second
-// reader, written from the document alone, but for the lines of operations 5 and 6, written by hand from document 02.
+// at 0 and 723, 4 at 0 and 4, 5 at 734, 6 at 8, 7 at 15, 8 at 20, 9 at 25. `stdout` comes from a second reader,
+// written from the document alone.
 mod text;
 
 ghost use Rattle.std.specs.Prelude.{◌<◌, ◌≤◌, length};

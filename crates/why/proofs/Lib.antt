@@ -5,6 +5,5 @@ mod Naming
 mod Telling
 mod Searching
 mod Gathering
-mod Choosing
 mod Boxed
 mod Asking

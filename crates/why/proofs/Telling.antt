@@ -1,5 +1,4 @@
--- What the row of the values near an unhidden pixel tells is the reason, of a ticket that has one phase.
--- Assumes nothing.
+-- What the row of the values near an unhidden pixel tells is the reason. Assumes nothing.
 use mathlib.Core.Path.{◌≡◌, refl, sym, ap, ap₂, ◌∙◌}
 use mathlib.Core.Bool.{Bool, true, false, not, cond}
 use mathlib.Core.List.{List}
@@ -62,7 +61,7 @@ unfolding extreme joined
 extreme_one low value k w e = ap (λ (o : Option ℕ). joined low o none) e
 
 module _ (t : Ticket) (p : Placement) (tray : List ℕ) (at : Pixel) (asked : Asked t p (length tray) at)
-    (few : t.operation ≤ 4) (bytes : Bytes tray) where
+    (bytes : Bytes tray) where
   abbrev l : Line
   l = line_of t
 
@@ -171,46 +170,28 @@ module _ (t : Ticket) (p : Placement) (tray : List ℕ) (at : Pixel) (asked : As
         ∙ ap (or_white white)
         (turned_is steep (operated t.operation (segment_of t) page) at.column at.row ∙ e)
 
-    passes_once : passes_twice t.operation ≡ false → operated t.operation (segment_of t) page ≡ first_page
-    unfolding segment_of
-    passes_once once =
-        once_is (segment_of t) page t.operation asked.ticket.operation_from few once
-        ∙ first_is (segment_of t) page t.operation
-
     once_result : passes_twice t.operation ≡ false → first_page M m ≡ some result
-    once_result once =
-        let is = ap (λ (f : View). f M m) (passes_once once) ∙ first_there.1 in
-        first_there.1 ∙ ap {B = Option ℕ} some (sym (result_is first_there.0 is))
-
-    passes_twice_lem : passes_twice t.operation ≡ true
-        → operated t.operation (segment_of t) page ≡ pass (not low) l other t.length first_page
     unfolding segment_of
-    passes_twice_lem twice =
-        twice_is (segment_of t) page t.operation asked.ticket.operation_from few twice
-        ∙ ap (pass (not low) l other t.length) (first_is (segment_of t) page t.operation)
+    once_result once =
+        let passes =
+        once_is (segment_of t) page t.operation asked.ticket.operation_from asked.ticket.operation_to once
+        ∙ first_is (segment_of t) page t.operation
+        in
+        let is = ap (λ (f : View). f M m) passes ∙ first_there.1 in
+        first_there.1 ∙ ap {B = Option ℕ} some (sym (result_is first_there.0 is))
 
     twice_result :
         passes_twice t.operation ≡ true → pass (not low) l other t.length first_page M m ≡ some result
+    unfolding segment_of
     twice_result twice =
+        let passes =
+        twice_is (segment_of t) page t.operation asked.ticket.operation_from asked.ticket.operation_to twice
+        ∙ ap (pass (not low) l other t.length) (first_is (segment_of t) page t.operation)
+        in
         let second =
         pass_some l sound (not low) other t.length (omega (arith, whole)) first_page M m _ first_there.1 in
-        let is = ap (λ (f : View). f M m) (passes_twice_lem twice) ∙ second.1 in
+        let is = ap (λ (f : View). f M m) passes ∙ second.1 in
         second.1 ∙ ap {B = Option ℕ} some (sym (result_is second.0 is))
-
-    operated_is : (b : Bool) → passes_twice t.operation ≡ b
-        → operated t.operation (segment_of t) page M m ≡ some result
-    operated_is true twice = ap (λ (f : View). f M m) (passes_twice_lem twice) ∙ twice_result twice
-    operated_is false once = ap (λ (f : View). f M m) (passes_once once) ∙ once_result once
-
-    -- so what the filter makes of the pixel is there, by column and row too
-    pub made_is :
-        filtered t.operation (segment_of t) (seen (boxes_of t) p.width p.height (placement.pixel_in tray p))
-        at.column at.row
-        ≡ some (finished t p tray at.column at.row)
-    unfolding filtered segment_of seen_by
-    made_is =
-        turned_is steep (operated t.operation (segment_of t) page) at.column at.row
-        ∙ operated_is (passes_twice t.operation) refl
 
     -- ---- the row
 
@@ -401,16 +382,12 @@ module _ (t : Ticket) (p : Placement) (tray : List ℕ) (at : Pixel) (asked : As
           fits_by true = fits_twice
           fits_by false = fits_once
 
-      -- the result of the search is the pixel of the finished page
-      pub row_gives : result_of (search_of t) row ≡ finished t p tray at.column at.row
+      pub row_result : result_of (search_of t) row < absent
       unfolding search_of
-      row_gives = found_by (passes_twice t.operation) refl
+      row_result = omega (arith, found_by (passes_twice t.operation) refl, result_low)
         where
           found_by :
               (b : Bool) → passes_twice t.operation ≡ b
               → result_of (looked (cond b back reach) (cond b t.length 1)) row ≡ result
           found_by true twice = found_twice twice
           found_by false once = found_once once
-
-      pub row_result : result_of (search_of t) row < absent
-      row_result = omega (arith, row_gives, result_low)

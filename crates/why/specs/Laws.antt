@@ -28,10 +28,8 @@ use Rattle.judging.specs.Judging.{judge_places}
 use Rattle.judging.specs.declared.Lengths.{Lengths}
 use Rattle.job.specs.Job.{answer, job_work}
 use Rattle.job.specs.Laws.{finished_job}
-use Rattle.job.specs.Order.{ticket_in}
 use Rattle.nearby.specs.declared.Pixel.{Pixel}
-use Rattle.why.specs.Phases.{ticket_giving_one}
-use Rattle.why.specs.Reason.{hidden_box, without_steps, no_reason, by_box, by_steps, phase_giving, reason_of}
+use Rattle.why.specs.Reason.{hidden_box, without_steps, no_reason, by_box, by_steps, reason_of}
 use Rattle.why.specs.Told.{judge_pixel, why_answer, lengths_of, told}
 
 -- ---- the answer
@@ -136,25 +134,13 @@ module _ (ticket : List ℕ) (p : Placements) (source : List ℕ) (output scratc
 -- ---- which reason
 
 module _ (t : Ticket) (p : Placement) (tray : List ℕ) (at : Pixel) where
-  abbrev giving : Ticket
-  giving = ticket_in t (phase_giving t p tray at)
-
   pub reason_box : hidden (boxes_of t) at.column at.row ≡ true → reason_of t p tray at ≡ by_box t at
   unfolding reason_of
-  reason_box e = ap (λ (b : Bool). cond b (by_box t at) (by_steps giving p tray at)) e
+  reason_box e = ap (λ (b : Bool). cond b (by_box t at) (by_steps t p tray at)) e
 
-  -- an unhidden pixel: the steps of the line in the phase that gives the result. Which phase that is stands in Phases
-  pub reason_steps :
-      hidden (boxes_of t) at.column at.row ≡ false
-      → reason_of t p tray at ≡ by_steps (ticket_in t (phase_giving t p tray at)) p tray at
+  pub reason_steps : hidden (boxes_of t) at.column at.row ≡ false → reason_of t p tray at ≡ by_steps t p tray at
   unfolding reason_of
-  reason_steps e = ap (λ (b : Bool). cond b (by_box t at) (by_steps giving p tray at)) e
-
-  -- of an operation that has one phase, the steps of the ticket's own line
-  pub reason_steps_one :
-      t.operation ≤ 4 → hidden (boxes_of t) at.column at.row ≡ false → reason_of t p tray at ≡ by_steps t p tray at
-  reason_steps_one few e =
-      reason_steps e ∙ ap (λ (one : Ticket). by_steps one p tray at) (ticket_giving_one t p tray at few)
+  reason_steps e = ap (λ (b : Bool). cond b (by_box t at) (by_steps t p tray at)) e
 
 -- a box is named by its number
 pub box_is : (t : Ticket) (at : Pixel) → by_box t at ≡ without_steps hidden_box (by_box t at).number

@@ -1,6 +1,5 @@
 pub mod Reason
 pub mod Told
 pub mod Promises
-pub mod Phases
 pub mod Laws
 pub mod Named

@@ -1,19 +1,17 @@
 -- What the functions of a question ask of one another.
 -- Assumes nothing.
-use Rattle.std.specs.Prelude.{◌≡◌, ℕ, suc, ◌+◌, ◌-◌, ◌≤◌, ◌<◌, false, cond, List, length}
-use Rattle.geometry.specs.Tables.{ProfileTable}
+use Rattle.std.specs.Prelude.{ℕ, ◌-◌, ◌≤◌, ◌<◌, cond, List, length}
 use Rattle.ticket.specs.Laws.{Allowed}
 use Rattle.ticket.specs.declared.Ticket.{Ticket}
-use Rattle.boxes.specs.Boxes.{hidden, boxes_of}
 use Rattle.placement.specs.Placement.{Placed}
 use Rattle.placement.specs.declared.Placement.{Placement}
 use Rattle.filter.specs.Engine.{back_of}
-use Rattle.job.specs.Order.{line_of, segment_of}
+use Rattle.job.specs.Order.{segment_of}
 use Rattle.finding.specs.Row.{absent, result_of, hit_of}
 use Rattle.finding.specs.Promises.{Fits}
 use Rattle.finding.specs.declared.Search.{Search}
-use Rattle.nearby.specs.Stand.{standing_of, pixel_in}
-use Rattle.nearby.specs.Promises.{Stands, Tabled, RowNear}
+use Rattle.nearby.specs.Stand.{pixel_in}
+use Rattle.nearby.specs.Promises.{Stands, Tabled}
 use Rattle.nearby.specs.declared.Pixel.{Pixel}
 use Rattle.nearby.specs.declared.Standing.{Standing}
 use Rattle.why.specs.Reason.{starts_low, passes_twice, one_pass, two_passes}
@@ -25,29 +23,6 @@ pub record Asked (t : Ticket) (p : Placement) (bytes : ℕ) (at : Pixel) : Type 
   pub placed : Placed p bytes
   pub column_in : at.column < p.width
   pub row_in : at.row < p.height
-
--- the same of an unhidden pixel,
-pub record Shown (t : Ticket) (p : Placement) (bytes : ℕ) (at : Pixel) : Type 0 where
-  pub asked : Asked t p bytes at
-  pub shows : hidden (boxes_of t) at.column at.row ≡ false
-
--- and of a ticket that has one phase: operations 5 and 6 have such a ticket in each phase
-pub record ShownInOne (t : Ticket) (p : Placement) (bytes : ℕ) (at : Pixel) : Type 0 where
-  pub shown : Shown t p bytes at
-  pub few : t.operation ≤ 4
-
--- a table for the longest side, and a row for the steps fewer than L away
-pub record Room (L : ℕ) (profile row : List ℕ) : Type 0 where
-  pub table : length profile ≡ 8192
-  pub places : suc (length row) ≡ L + L
-
--- the pixel on its line, with the line's drift in the table and the values near the pixel in the row, which begins
--- L - 1 steps before it
-pub record Gathered (t : Ticket) (p : Placement) (tray : List ℕ) (at : Pixel) (s : Standing) (profile row : List ℕ)
-    : Type 0 where
-  pub stands : s ≡ standing_of (line_of t) (t.length - 1) p.width p.height at
-  pub tabled : ProfileTable (line_of t) profile
-  pub near : RowNear t s p tray row
 
 -- what is looked over in the row of the values near the pixel, which begins L - 1 steps before it: the second window,
 -- or for one pass the pixel alone

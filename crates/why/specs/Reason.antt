@@ -3,11 +3,9 @@
 -- Assumes nothing.
 use Rattle.std.specs.Prelude.{ℕ, ◌+◌, ◌-◌, Bool, false, not, ◌||◌, cond, List, eqb}
 use Rattle.std.proofs.Math.Option.{Option, none, some}
-use Rattle.vectors.specs.Vector.{major_of}
 use Rattle.geometry.specs.Drift.{first}
 use Rattle.geometry.specs.Line.{landing, step_of, major_at}
 use Rattle.geometry.specs.declared.Line.{Line}
-use Rattle.ticket.specs.Judging.{takes_all_phases}
 use Rattle.ticket.specs.declared.HiddenBox.{HiddenBox}
 use Rattle.ticket.specs.declared.Ticket.{Ticket}
 use Rattle.boxes.specs.Boxes.{covers, hidden, boxes_of}
@@ -20,7 +18,7 @@ use Rattle.filter.specs.Engine.{back_of}
 use Rattle.filter.specs.Filters.{in_window, eroded, dilated, erosion, opening, closing}
 use Rattle.filter.specs.declared.Segment.{Segment}
 use Rattle.job.specs.Job.{finished}
-use Rattle.job.specs.Order.{line_of, segment_of, ticket_in}
+use Rattle.job.specs.Order.{line_of, segment_of}
 use Rattle.nearby.specs.declared.Pixel.{Pixel}
 use Rattle.why.specs.declared.Reason.{Reason}
 
@@ -122,7 +120,7 @@ unfoldable pub seen_by : Ticket → Placement → List ℕ → View
 seen_by t p tray =
     turned (runs_steep (line_of t)) (seen (boxes_of t) p.width p.height (pixel_in tray p))
 
--- the reason for an unhidden pixel, of a ticket with one phase: the result is what the finished page has there
+-- the reason for an unhidden pixel: the result is what the finished page has there
 unfoldable pub by_steps : Ticket → Placement → List ℕ → Pixel → Reason
 by_steps t p tray at =
     let w = finished t p tray at.column at.row in
@@ -134,20 +132,5 @@ by_steps t p tray at =
 unfoldable pub by_box : Ticket → Pixel → Reason
 by_box t at = without_steps hidden_box (first_of (λ (b : HiddenBox). covers b at.column at.row) (boxes_of t))
 
--- what one phase of a ticket alone makes of a pixel
-abbrev pub finished_in : Ticket → Placement → List ℕ → Pixel → ℕ → ℕ
-finished_in t p tray at i = finished (ticket_in t i) p tray at.column at.row
-
--- wish 6: "Wish 4 names the lowest phase that gives the result first": the lowest of the k phases whose own opening or
--- closing has the result at the pixel. The operations 1 to 4 have one phase.
-unfoldable pub phase_giving : Ticket → Placement → List ℕ → Pixel → ℕ
-phase_giving t p tray at =
-    cond (takes_all_phases t.operation)
-    (first (λ i. eqb (finished_in t p tray at i) (finished t p tray at.column at.row)) 0 (major_of t.dx t.dy))
-    t.phase
-
--- for an unhidden pixel the phase that gives the result comes first, and then the steps of the line in that phase
 unfoldable pub reason_of : Ticket → Placement → List ℕ → Pixel → Reason
-reason_of t p tray at =
-    cond (hidden (boxes_of t) at.column at.row) (by_box t at)
-    (by_steps (ticket_in t (phase_giving t p tray at)) p tray at)
+reason_of t p tray at = cond (hidden (boxes_of t) at.column at.row) (by_box t at) (by_steps t p tray at)

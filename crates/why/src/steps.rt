@@ -1,17 +1,16 @@
 // The reason for a pixel of a page that is there: a box, or steps of its line.
-ghost use Rattle.std.specs.Prelude.{◌≡◌, length};
-ghost use Rattle.job.specs.Order.{ticket_in};
-ghost use Rattle.why.specs.Reason.{without_steps, by_steps, phase_giving, reason_of};
-ghost use Rattle.why.specs.Promises.{Asked, Shown, ShownInOne, Room, Searched, reason_in};
+ghost use Rattle.std.specs.Prelude.{◌≡◌, false, suc, ◌+◌, length};
+ghost use Rattle.boxes.specs.Boxes.{hidden, boxes_of};
+ghost use Rattle.why.specs.Reason.{without_steps, by_steps, reason_of};
+ghost use Rattle.why.specs.Promises.{Asked, Searched, reason_in};
 
 use super::Reason;
-use super::gather::gather;
 use super::order::{either, passes_twice, search_of};
-use super::phases::phase_giving;
 use boxes::Question;
 use finding::hits::first_hit;
-use job::order::ticket_in;
 use nearby::place::pixel_in;
+use nearby::row::fill_row;
+use nearby::stand::standing_of;
 use nearby::{Pixel, Standing};
 use placement::Placement;
 use ticket::Ticket;
@@ -68,8 +67,7 @@ fn named_in(t: Ticket, s: Standing, profile: &[usize], row: &[u16]) -> Reason
     }
 }
 
-// The reason for an unhidden pixel where there is one phase: the values near it are gathered, and the first hit is
-// searched among them.
+// The reason for an unhidden pixel: the values near it are gathered, and the first hit is searched among them.
 fn by_steps(
     t: Ticket,
     source: &[u8],
@@ -78,34 +76,19 @@ fn by_steps(
     profile: &mut [usize],
     row: &mut [u16],
 ) -> Reason
-    requires shown_in_one { ShownInOne t from (length source.now) at }
-    requires room { Room t.length profile.old row.old }
+    requires asked { Asked t from (length source.now) at }
+    requires row_value { hidden (boxes_of t) at.column at.row ≡ false }
+    requires profile_len { (length profile.old ≡ 8192) × (suc (length row.old) ≡ t.length + t.length) }
     ensures { result ≡ by_steps t from source.now at }
 {
-    let s = gather(t, source, from, at, profile, row);
+    let line = job::order::line_of(t);
+    let s = standing_of(line, t.length - 1, from.width, from.height, at);
+    geometry::profile::fill_profile(line, profile);
+    fill_row(t, s, source, from, profile, row);
     named_in(t, s, profile, row)
 }
 
-// The reason for an unhidden pixel: the phase that gives the result, and the steps of the line in that phase.
-fn by_phase(
-    t: Ticket,
-    source: &[u8],
-    from: Placement,
-    at: Pixel,
-    profile: &mut [usize],
-    row: &mut [u16],
-) -> Reason
-    requires shown { Shown t from (length source.now) at }
-    requires room { Room t.length profile.old row.old }
-    ensures { result ≡ by_steps (ticket_in t (phase_giving t from source.now at)) from
-        source.now at }
-{
-    let i = phase_giving(t, source, from, at, profile, row);
-    by_steps(ticket_in(t, i), source, from, at, profile, row)
-}
-
-// The reason: "For a hidden pixel, the first box that holds it", for any other the steps of its line in the phase that
-// gives the result.
+// The reason: "For a hidden pixel, the first box that holds it", for any other the steps of its line.
 pub fn reason_of(t: Ticket, source: &[u8], from: Placement, at: Pixel) -> Reason
     requires { Asked t from (length source.now) at }
     ensures { result ≡ reason_of t from source.now at }
@@ -122,5 +105,5 @@ pub fn reason_of(t: Ticket, source: &[u8], from: Placement, at: Pixel) -> Reason
     let mut profile = no_entries();
     let mut row = no_values();
     let places = t.length + t.length - 1;
-    by_phase(t, source, from, at, &mut profile[..], &mut row[..places])
+    by_steps(t, source, from, at, &mut profile[..], &mut row[..places])
 }

@@ -1,16 +1,16 @@
--- Document 01, 'Small pages to check against': cases 1 to 15 as one table, with case 12 flipped (document 02, wish 2)
--- and cases of all phases at once (wish 6), and one statement over the definitions, closed by computation. It says of
--- each case whether its ticket is read, what page and what work the definitions have for it, and what its job does: the
--- answer, the output tray and the scratch after it.
+-- Document 01, 'Small pages to check against': cases 1 to 15 as one table, with case 12 flipped (document 02, wish 2),
+-- and one statement over the definitions, closed by computation. It says of each case whether its ticket is read, what
+-- page and what work the definitions have for it, and what its job does: the answer, the output tray and the scratch
+-- after it.
 -- Each case but one stands at three placements: its trays just the page, and twice in longer trays, at another offset
 -- and with wider strides for source and output, between black and between white bytes. The output tray and the scratch
 -- are old; at a finished job the output tray is its old bytes with the page among them, and the scratch it needs is
 -- zero.
 -- Assumes nothing.
-use Rattle.std.specs.Prelude.{◌≡◌, refl, ℕ, zero, suc, ◌+◌, ◌-◌, ◌*◌, ◌/◌, ◌%◌, Bool, cond, ◌||◌, ◌&&◌, List, [], ◌∷◌, ◌++◌, map, take, drop, replicate, eqb, leb, ℤ, pos, negsuc}
+use Rattle.std.specs.Prelude.{◌≡◌, refl, ℕ, zero, suc, ◌+◌, ◌-◌, ◌*◌, ◌/◌, ◌%◌, Bool, cond, ◌||◌, List, [], ◌∷◌, ◌++◌, map, take, drop, replicate, eqb, leb, ℤ, pos, negsuc}
 use Rattle.std.proofs.Common.{sym, ap, ◌∙◌}
 use Rattle.vectors.specs.Vector.{shallow, steep, major_of, minor_of}
-use Rattle.geometry.specs.Line.{nearest, D, shift, period, profile, place, landing, step_of, major_at, in_phase}
+use Rattle.geometry.specs.Line.{nearest, D, shift, period, profile, place, landing, step_of, major_at}
 use Rattle.geometry.specs.Number.{within, in_page, count, behind, ahead}
 use Rattle.runs.specs.Span.{chosen}
 use Rattle.runs.specs.Block.{rightward, leftward, resulting}
@@ -24,7 +24,7 @@ use Rattle.fields.specs.Fields.{length_in, origin_in, phase_in, field_end}
 use Rattle.fields.specs.Vectors.{divided, coprime, vector_allowed, phase_allowed}
 use Rattle.ticket.specs.Boxes.{box_at, boxes_from, boxes_in}
 use Rattle.ticket.specs.Judging.{judge_head, judge_size, judge_field, operation_known, line_known, is_periodic}
-use Rattle.ticket.specs.Judging.{length_allowed, origin_allowed, takes_all_phases, line_taken, phase_taken}
+use Rattle.ticket.specs.Judging.{length_allowed, origin_allowed}
 use Rattle.ticket.specs.Judging.{judge_operation, judge_line, judge_vector, judge_length, judge_origin, judge_phase, judge_box}
 use Rattle.ticket.specs.Judging.{judged}
 use Rattle.ticket.specs.Judging as ticket-judging
@@ -37,11 +37,9 @@ use Rattle.placement.specs.declared.Placements.{Placements}
 use Rattle.tray.specs.Written.{written_from, written, cleared}
 use Rattle.filter.specs.Seen.{seen, turned, runs_steep}
 use Rattle.filter.specs.Filters.{joined, extreme, value_at, on_line, in_window, pass_at, pass, eroded, dilation_back}
-use Rattle.filter.specs.Filters.{erosion, dilation, opening, closing, opening_in_all, closing_in_all}
+use Rattle.filter.specs.Filters.{erosion, dilation, opening, closing}
 use Rattle.filter.specs.Filters.{dilated, opened, closed, operated, filtered, or_white, recipe_boxes, filtered_page}
-use Rattle.filter.specs.Filters.{segment_in, phases_of, in_all_phases, opened_in_all, closed_in_all}
-use Rattle.filter.specs.Work.{charged, charged_at, pass_work, erosion_work, dilation_work, opening_work, closing_work}
-use Rattle.filter.specs.Work.{all_phases_work, work_of}
+use Rattle.filter.specs.Work.{charged, charged_at, pass_work, erosion_work, dilation_work, work_of}
 use Rattle.job.specs.Order.{line_of, segment_of, recipe_of}
 use Rattle.judging.specs.Pages.{pages_of}
 use Rattle.judging.specs.Judging.{judge_sides, judge_source, judge_output, judge_scratch, judge_page_boxes_from}
@@ -107,9 +105,8 @@ record Case : Type 0 where
   width : ℕ
   height : ℕ
   pixels : List ℕ
-  -- how many bytes the source tray lacks, and how many pages the scratch has room for
+  -- how many bytes the source tray lacks
   missing : ℕ
-  room : ℕ
   -- the page of the ticket, and how the ticket's job is answered
   page : Page
   reply : Reply
@@ -126,7 +123,6 @@ row bytes work result reply =
       height = 1;
       pixels = 9 ∷ 1 ∷ 5 ∷ [];
       missing = 0;
-      room = 2;
       page = record { work = work; pixels = result };
       reply = reply;
       pages_at = thrice;
@@ -142,7 +138,6 @@ square_of pixels bytes work result reply =
       height = 3;
       pixels = pixels;
       missing = 0;
-      room = 2;
       page = record { work = work; pixels = result };
       reply = reply;
       pages_at = thrice;
@@ -166,7 +161,6 @@ without bytes missing reply =
       height = 1;
       pixels = 9 ∷ 1 ∷ 5 ∷ [];
       missing = missing;
-      room = 2;
       page = record { work = 0; pixels = [] };
       reply = reply;
       pages_at = [];
@@ -182,31 +176,13 @@ run_once c =
       height = c.height;
       pixels = c.pixels;
       missing = c.missing;
-      room = c.room;
       page = c.page;
       reply = c.reply;
       pages_at = [];
       jobs_at = once;
     }
 
--- "for 5 and 6 alone scratch grows by w·h": a case with room for a third page
-abbrev third_page : Case → Case
-third_page c =
-    record {
-      bytes = c.bytes;
-      width = c.width;
-      height = c.height;
-      pixels = c.pixels;
-      missing = c.missing;
-      room = 3;
-      page = c.page;
-      reply = c.reply;
-      pages_at = c.pages_at;
-      jobs_at = c.jobs_at;
-    }
-
--- The document gives the work of cases 1, 2, 3, 6 and 7; the others' is counted by hand along their lines. Of all
--- phases at once, pages and work were found by a small program made after the documents' words, which is not kept.
+-- The document gives the work of cases 1, 2, 3, 6 and 7; the others' is counted by hand along their lines.
 abbrev table : List Case
 table =
     -- 1 to 4
@@ -243,23 +219,6 @@ table =
     ∷ without (plain erosion 8193 0) 0 (refuses 7 15)
     ∷ without (plain erosion 2 2) 0 (refuses 8 20)
     ∷ without (plain erosion 2 0) 1 (refuses 11 0)
-    -- document 02, wish 6, on the page of cases 11 to 13 along (2, 1), which has two phases: "operation 5, the
-    -- pixelwise maximum of the openings over all k phases". Phase 0 opens it to 1 2 2 / 4 5 5 / 7 8 8, phase 1 to
-    -- 1 2 3 / 4 5 2 / 7 7 5; each pass costs 8, and joining the second phase 9.
-    ∷ third_page (square (ticket opening_in_all 1 2 1 2 1 0) 41 (1 ∷ 2 ∷ 3 ∷ 4 ∷ 5 ∷ 5 ∷ 7 ∷ 8 ∷ 8 ∷ []) finishes)
-    ∷ third_page (square (ticket opening_in_all 1 2 1 2 0 0) 41 (1 ∷ 2 ∷ 3 ∷ 4 ∷ 5 ∷ 6 ∷ 7 ∷ 8 ∷ 9 ∷ []) finishes)
-    -- "and 6, the minimum of the closings"
-    ∷ third_page (square (ticket closing_in_all 1 2 1 2 1 0) 41 (2 ∷ 2 ∷ 3 ∷ 5 ∷ 5 ∷ 6 ∷ 7 ∷ 8 ∷ 9 ∷ []) finishes)
-    -- a box over the middle, with L 2, and with L 3 and the origin at the segment's end
-    ∷ third_page
-    (square (ticket opening_in_all 1 2 1 2 1 0 ++ box 1 1 1 1) 41 (1 ∷ 2 ∷ 3 ∷ 4 ∷ 255 ∷ 6 ∷ 7 ∷ 8 ∷ 9 ∷ []) finishes)
-    ∷ third_page
-    (square (ticket opening_in_all 1 2 1 3 2 0 ++ box 1 1 1 1) 49 (1 ∷ 2 ∷ 3 ∷ 4 ∷ 255 ∷ 1 ∷ 7 ∷ 7 ∷ 4 ∷ []) finishes)
-    -- "for 5 and 6 alone scratch grows by w·h"
-    ∷ square (ticket closing_in_all 1 2 1 2 1 0) 41 (2 ∷ 2 ∷ 3 ∷ 5 ∷ 5 ∷ 6 ∷ 7 ∷ 8 ∷ 9 ∷ []) (refuses 13 0)
-    -- "a wrong phase is 9; a periodic line is 20, judged at tag 2"
-    ∷ without (ticket closing_in_all 1 2 1 2 0 1) 0 (refuses 9 25)
-    ∷ without (ticket opening_in_all 2 1 0 2 0 0) 0 (refuses 20 4)
     ∷ []
 
 -- ---- the placements
@@ -291,9 +250,9 @@ source_tray c s = laid s.lead s.gap s.filler c.width c.height c.pixels c.missing
 abbrev output_tray : Case → Setting → List ℕ → List ℕ
 output_tray c s pixels = laid (s.lead + 1) (s.gap + s.gap) 77 c.width c.height pixels 0
 
--- what a scratch holds: the bytes it needs for its pages, and two more
+-- what a scratch holds: the bytes it needs for two pages, and two more
 abbrev scratch_of : Case → ℕ → List ℕ
-scratch_of c used = replicate (scratch_needed c.room c.width c.height) used ++ (6 ∷ 6 ∷ [])
+scratch_of c used = replicate (scratch_needed 2 c.width c.height) used ++ (6 ∷ 6 ∷ [])
 
 -- ---- a page as a list
 
@@ -369,11 +328,11 @@ by_definition c =
       jobs = map (λ (s : Setting). done c s) c.jobs_at;
     }
 
--- refusals 1 to 9 and 20 are those of a ticket that is not read
+-- refusals 1 to 9 are those of a ticket that is not read
 abbrev by_table : Case → Verdict
 by_table c =
     record {
-      read = ends c || (leb 10 c.reply.number && leb c.reply.number 14);
+      read = ends c || leb 10 c.reply.number;
       pages = map (λ (s : Setting). c.page) c.pages_at;
       jobs = map (λ (s : Setting). said c s) c.jobs_at;
     }
@@ -467,14 +426,14 @@ read_once_lem = λ i c. sym (read_first_lem (shown c.bytes) (verdict c)) i
 computed : map read_once table ≡ map by_table table
 unfolding first firstℤ read_first
     shallow steep major_of minor_of
-    nearest D shift period profile place landing step_of major_at in_phase
+    nearest D shift period profile place landing step_of major_at
     within in_page count behind ahead
     chosen rightward leftward resulting total
     number_of place_of work_in is_done whenDone unless ◌then◌
     byte_at number_at signed16 signed_at operation_in line_in dx_in dy_in
     length_in origin_in phase_in field_end box_at boxes_from boxes_in
     judge_head judge_size judge_field operation_known line_known is_periodic divided
-    coprime vector_allowed length_allowed origin_allowed phase_allowed takes_all_phases line_taken phase_taken
+    coprime vector_allowed length_allowed origin_allowed phase_allowed
     judge_operation judge_line judge_vector judge_length judge_origin judge_phase judge_box
     ticket-judging.judge_boxes judged box_places shown
     covers hidden boxes_of box_allowed
@@ -482,9 +441,8 @@ unfolding first firstℤ read_first
     column_of row_of inside written_from written cleared
     seen turned runs_steep
     joined extreme value_at on_line in_window pass_at pass eroded dilation_back
-    dilated opened closed segment_in phases_of in_all_phases opened_in_all closed_in_all
-    operated filtered or_white recipe_boxes filtered_page
-    charged charged_at pass_work erosion_work dilation_work opening_work closing_work all_phases_work work_of
+    dilated opened closed operated filtered or_white recipe_boxes filtered_page
+    charged charged_at pass_work erosion_work dilation_work work_of
     line_of segment_of recipe_of pages_of
     judge_sides judge_source judge_output judge_scratch judge_page_boxes_from judge_page_boxes judge_places
     finished_with job_work job_scratch answer output_after scratch_after

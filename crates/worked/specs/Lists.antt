@@ -22,7 +22,7 @@ use Rattle.fields.specs.Fields.{length_in, origin_in, phase_in, field_end}
 use Rattle.fields.specs.Vectors.{divided, coprime, vector_allowed, phase_allowed}
 use Rattle.ticket.specs.Boxes.{box_at, boxes_from, boxes_in}
 use Rattle.ticket.specs.Judging.{judge_head, judge_size, judge_field, operation_known, line_known, is_periodic}
-use Rattle.ticket.specs.Judging.{length_allowed, origin_allowed, takes_all_phases, line_taken, phase_taken}
+use Rattle.ticket.specs.Judging.{length_allowed, origin_allowed}
 use Rattle.ticket.specs.Judging.{judge_operation, judge_line, judge_vector, judge_length, judge_origin, judge_phase, judge_box}
 use Rattle.ticket.specs.Judging as tickets
 use Rattle.ticket.specs.Reading.{box_places, shown}
@@ -104,7 +104,7 @@ unfolding shallow steep major_of minor_of
     byte_at number_at signed16 signed_at operation_in line_in dx_in dy_in
     length_in origin_in phase_in field_end box_at boxes_from boxes_in
     judge_head judge_size judge_field operation_known line_known is_periodic divided
-    coprime vector_allowed length_allowed origin_allowed phase_allowed takes_all_phases line_taken phase_taken
+    coprime vector_allowed length_allowed origin_allowed phase_allowed
     judge_operation judge_line judge_vector judge_length judge_origin judge_phase judge_box
     tickets.judge_boxes tickets.judged box_places shown
     covers hidden boxes_of box_allowed

@@ -3,14 +3,11 @@
 -- own window, but after the erosion it is 3: it does not give the 5, and the second pixel does. Of the pixels 4, 1 and
 -- 1, eroded along three steps, the first 1 is named. A pixel in two boxes is hidden by the first of them that holds it,
 -- here box 1. And a pixel off the page is refused, after a source tray that is too short.
--- Wish 6, all phases at once: along the vector (2, 1) the second step is in the same row in one phase and a row below
--- in the other, and what is named is the lowest phase that gives the result.
 -- Assumes nothing.
-use Rattle.std.specs.Prelude.{◌≡◌, refl, ℕ, List, [], ◌∷◌, ◌++◌, pos}
+use Rattle.std.specs.Prelude.{◌≡◌, refl, ℕ, List, [], ◌∷◌, ◌++◌}
 use Rattle.vectors.specs.Vector.{shallow, steep, major_of, minor_of}
 use Rattle.geometry.specs.Drift.{first}
 use Rattle.geometry.specs.Line.{nearest, D, shift, period, profile, place, landing, step_of, major_at}
-use Rattle.geometry.specs.Line as lines
 use Rattle.runs.specs.Span.{chosen}
 use Rattle.refusal.specs.Answer.{whenDone}
 use Rattle.refusal.specs.Chain.{unless, ◌then◌}
@@ -23,11 +20,10 @@ use Rattle.fields.specs.Fields.{length_in, origin_in, phase_in, field_end}
 use Rattle.fields.specs.Vectors.{divided, coprime, vector_allowed, phase_allowed}
 use Rattle.ticket.specs.Boxes.{box_at, boxes_from, boxes_in}
 use Rattle.ticket.specs.Judging.{judge_head, judge_size, judge_field, operation_known, line_known, is_periodic}
-use Rattle.ticket.specs.Judging.{takes_all_phases, line_taken, phase_taken, length_allowed, origin_allowed}
+use Rattle.ticket.specs.Judging.{length_allowed, origin_allowed}
 use Rattle.ticket.specs.Judging.{judge_operation, judge_line, judge_vector, judge_length, judge_origin, judge_phase, judge_box}
 use Rattle.ticket.specs.Judging as tickets
 use Rattle.ticket.specs.Reading.{box_places, shown}
-use Rattle.ticket.specs.declared.Ticket.{Ticket}
 use Rattle.boxes.specs.Boxes.{covers, hidden, boxes_of, box_allowed}
 use Rattle.boxes.specs.First.{first_of}
 use Rattle.placement.specs.Placement.{row_start, byte_of, pixel_in, side_allowed, allowed, fits}
@@ -41,15 +37,11 @@ use Rattle.filter.specs.Seen.{seen, turned, runs_steep}
 use Rattle.filter.specs.Engine.{back_of}
 use Rattle.filter.specs.Filters.{joined, extreme, value_at, on_line, in_window, pass_at, pass, eroded, dilation_back}
 use Rattle.filter.specs.Filters.{dilated, opened, closed, operated, filtered, or_white, recipe_boxes, filtered_page}
-use Rattle.filter.specs.Filters.{segment_in, phases_of, in_all_phases, opened_in_all, closed_in_all}
-use Rattle.filter.specs.Phases.{each_phase}
-use Rattle.job.specs.Order.{line_of, segment_of, recipe_of, ticket_in}
+use Rattle.job.specs.Order.{line_of, segment_of, recipe_of}
 use Rattle.job.specs.Job.{finished_with}
 use Rattle.why.specs.Reason.{has, first_with, place_of, pixel_at, named, starts_low, passes_twice, first_pass_of}
-use Rattle.why.specs.Reason.{without_steps, no_reason, by_one_pass, by_two_passes, seen_by, by_steps, by_box, phase_giving}
-use Rattle.why.specs.Reason.{reason_of}
+use Rattle.why.specs.Reason.{without_steps, no_reason, by_one_pass, by_two_passes, seen_by, by_steps, by_box, reason_of}
 use Rattle.why.specs.Told.{judge_pixel, why_answer, told}
-use Rattle.why.specs.declared.Reason.{Reason}
 use Rattle.why.specs.declared.Told.{Told}
 
 -- a connected line (1, 0) of phase 0: operation, length and origin
@@ -115,7 +107,7 @@ unfolding shallow steep major_of minor_of
     chosen whenDone unless ◌then◌
     byte_at number_at signed16 signed_at operation_in line_in dx_in dy_in
     length_in origin_in phase_in field_end box_at boxes_from boxes_in
-    judge_head judge_size judge_field operation_known line_known is_periodic takes_all_phases line_taken phase_taken divided
+    judge_head judge_size judge_field operation_known line_known is_periodic divided
     coprime vector_allowed length_allowed origin_allowed phase_allowed
     judge_operation judge_line judge_vector judge_length judge_origin judge_phase judge_box
     tickets.judge_boxes tickets.judged box_places shown
@@ -125,69 +117,8 @@ unfolding shallow steep major_of minor_of
     down_of across_of seen turned runs_steep back_of
     joined extreme value_at on_line in_window pass_at pass eroded dilation_back
     dilated opened closed operated filtered or_white recipe_boxes filtered_page
-    line_of segment_of recipe_of ticket_in each_phase finished_with
+    line_of segment_of recipe_of finished_with
     has first_with place_of pixel_at named starts_low passes_twice first_pass_of
-    without_steps by_one_pass by_two_passes seen_by by_steps by_box phase_giving reason_of
+    without_steps by_one_pass by_two_passes seen_by by_steps by_box reason_of
     judge_pixel why_answer told
 worked_reasons = refl
-
--- ---- all phases at once
-
--- two steps from origin 0 along the vector (2, 1), in both its phases
-abbrev in_all : ℕ → Ticket
-in_all operation =
-    record {
-      operation = operation;
-      line = 1;
-      dx = pos 2;
-      dy = pos 1;
-      length = 2;
-      origin = 0;
-      phase = 0;
-      count = 0;
-      boxes = [];
-    }
-
--- of a pixel in two rows of two pixels
-abbrev reason_in : ℕ → List ℕ → ℕ → ℕ → Reason
-reason_in operation source column row =
-    reason_of (in_all operation) (record { width = 2; height = 2; offset = 0; stride = 2 }) source
-    (record { column = column; row = row })
-
--- a pixel that gives the result itself, in a phase
-abbrev itself : ℕ → ℕ → ℕ → Reason
-itself phase column row =
-    record {
-      kind = 4;
-      number = 0;
-      phase = phase;
-      through = record { column = column; row = row };
-      from = record { column = column; row = row };
-    }
-
--- in phase 0 the step after the first pixel is in the row below, in phase 1 it is in the same row: there a 9 keeps its
--- 9, and where both phases keep it the lower one is named. A 3 that is closed with a 1 before it stays 3.
-worked_phases :
-    (reason_in 5 (9 ∷ 9 ∷ 0 ∷ 0 ∷ []) 0 0
-    ∷ reason_in 5 (9 ∷ 0 ∷ 0 ∷ 9 ∷ []) 0 0
-    ∷ reason_in 5 (9 ∷ 9 ∷ 0 ∷ 9 ∷ []) 0 0
-    ∷ reason_in 6 (9 ∷ 0 ∷ 1 ∷ 3 ∷ []) 1 1
-    ∷ reason_in 6 (1 ∷ 0 ∷ 1 ∷ 3 ∷ []) 1 1
-    ∷ [])
-    ≡ (itself 1 0 0
-    ∷ itself 0 0 0
-    ∷ itself 0 0 0
-    ∷ itself 1 1 1
-    ∷ itself 0 1 1
-    ∷ [])
-unfolding shallow steep major_of minor_of
-    first nearest D shift period profile place landing step_of major_at lines.in_phase
-    chosen is_periodic takes_all_phases hidden boxes_of row_start byte_of pixel_in
-    down_of across_of seen turned runs_steep back_of
-    joined extreme value_at on_line in_window pass_at pass eroded dilation_back
-    dilated opened closed segment_in phases_of in_all_phases opened_in_all closed_in_all
-    operated filtered or_white recipe_boxes filtered_page
-    line_of segment_of recipe_of ticket_in each_phase finished_with
-    has first_with place_of pixel_at named starts_low passes_twice first_pass_of
-    by_two_passes seen_by by_steps phase_giving reason_of
-worked_phases = refl

@@ -113,23 +113,20 @@ def _add_cleaning(words: Any, name: str, word: Word) -> None:
     add = options.add_argument
     add("pages", metavar="IN", nargs="+", help="the pages' files; - is standard input")
     add("-o", metavar="OUT", dest="out", required=True, help="the finished page's file or folder; - is standard output")
-    _add_order(options, has_all_phases=word.in_all_phases is not None)
+    _add_order(options)
     add("--write-ticket", metavar="FILE", help="keep the ticket in this file")
     add("--jobs", metavar="N", type=_jobs, default=_processors(), help="pages at a time (default: the processors)")
     _add_help(options)
 
 
-def _add_order(options: Any, has_all_phases: bool) -> None:
-    """What makes a ticket, or a ready one. A word that is not done in all phases does not offer them, but knows the
-    option, to say so."""
+def _add_order(options: Any) -> None:
+    """What makes a ticket, or a ready one."""
     add = options.add_argument
     add("--along", metavar="DX,DY", type=_along, help="the line's vector, right and down, or an angle: 31deg")
     add("--length", metavar="L", type=_number, help="the segment's steps, 1 to 8192")
     add("--origin", metavar="O", type=_origin, help="the step of its origin, from 0, or centre (default)")
     add("--periodic", action="store_true", default=None, help="a step is the whole vector, not the next pixel")
     add("--phase", metavar="I", type=_number, help="the phase of a connected line (default 0)")
-    told = "open or close in all phases: what stays in one stays" if has_all_phases else argparse.SUPPRESS
-    add("--all-phases", action="store_true", default=None, help=told)
     add("--hide", metavar="BOX", type=_box, action="append", help="hide LEFT,TOP,WIDTH,HEIGHT; up to 64 times")
     add("--ticket", metavar="FILE", help="a ready ticket, in place of these")
 
@@ -166,7 +163,7 @@ def _add_why(words: Any) -> None:
     add("--picture", metavar="OUT", help="draw it, too, in this .svg file, or with Pillow in a .png")
     add("--json", action="store_true", help="print JSON in place of the sentence")
     add("--operation", metavar="WORD", choices=[*WORDS], help=f"what is ordered: {', '.join(WORDS)}")
-    _add_order(options, has_all_phases=True)
+    _add_order(options)
     _add_help(options)
 
 

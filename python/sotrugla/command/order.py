@@ -8,10 +8,10 @@ import sotrugla
 
 from . import files
 from .faults import Fault, Misused
-from .words import WORDS, in_words, word_of
+from .words import WORDS, word_of
 
 # The options that make a ticket, which a ready one stands for. Each is None where it is not given.
-_MAKING = ("along", "length", "origin", "periodic", "phase", "all_phases", "hide")
+_MAKING = ("along", "length", "origin", "periodic", "phase", "hide")
 
 
 def ticket_of(options: argparse.Namespace) -> bytes:
@@ -32,13 +32,13 @@ def _read(name: str, content: bytes) -> sotrugla.Ticket:
 
 
 def _ready(options: argparse.Namespace) -> bytes:
-    given = [f"--{name.replace('_', '-')}" for name in _MAKING if getattr(options, name) is not None]
+    given = [f"--{name}" for name in _MAKING if getattr(options, name) is not None]
     if given:
         raise Misused(f"--ticket orders everything; leave out {', '.join(given)}")
     content = files.read(options.ticket)
-    ordered = _read(options.ticket, content).operation
-    if options.operation not in (None, word_of(ordered)):
-        raise Misused(f"{options.ticket} orders {in_words(ordered)}, not {options.operation}")
+    ordered = word_of(_read(options.ticket, content).operation)
+    if options.operation not in (None, ordered):
+        raise Misused(f"{options.ticket} orders {ordered}, not {options.operation}")
     return content
 
 
@@ -47,17 +47,13 @@ def _made(options: argparse.Namespace) -> bytes:
         raise Misused("give --operation, --along and --length, or --ticket")
     if options.along is None or options.length is None:
         raise Misused("give --along and --length, or --ticket")
-    word = WORDS[options.operation]
-    if options.all_phases and word.in_all_phases is None:
-        raise Misused(f"--all-phases is for open and close; {options.operation} has one phase at a time")
-    ticket = word.make(
+    ticket = WORDS[options.operation].make(
         along=(options.along.dx, options.along.dy),
         length=options.length,
         origin="centre" if options.origin is None else options.origin,
         periodic=bool(options.periodic),
         phase=options.phase or 0,
         hide=options.hide or [],
-        **({"all_phases": True} if options.all_phases else {}),
     )
     try:
         encoded = ticket.encode()

@@ -44,7 +44,7 @@ def _see_count(jobs: Sequence[Listed]) -> None:
 
 def _results(jobs: Sequence[Listed], tickets: Dict[str, bytes], tray: str, out: str) -> List[sotrugla.Result]:
     listed = [sotrugla.TrayJob(tickets[job.ticket], job.placed, job.spot) for job in jobs]
-    spans = [_span(job) for job in jobs if _is_placed(job, tickets[job.ticket])]
+    spans = [_span(job) for job in jobs if _is_placed(job)]
     with mapping.to_read(tray) as source:
         with mapping.to_write(out, len(source), spans, like=tray) as output:
             try:
@@ -53,12 +53,11 @@ def _results(jobs: Sequence[Listed], tickets: Dict[str, bytes], tray: str, out: 
                 raise Fault(tray, "cannot be cleaned: there is not enough memory") from error
 
 
-def _is_placed(job: Listed, ticket: bytes) -> bool:
-    """Whether its ticket, sides and strides are allowed: a job that is refused for them may name any place, and writes
-    none."""
+def _is_placed(job: Listed) -> bool:
+    """Whether its sides and strides are allowed: a job that is refused for them may name any place, and writes none."""
     strides = job.placed.stride, job.spot.stride
     allowed = all(job.placed.width <= stride <= WIDEST_STRIDE for stride in strides)
-    return allowed and sotrugla.scratch_needed(ticket, job.placed.width, job.placed.height) > 0
+    return allowed and sotrugla.scratch_needed(job.placed.width, job.placed.height) > 0
 
 
 def _span(job: Listed) -> mapping.Span:

@@ -2,37 +2,26 @@
 
 from __future__ import annotations
 
-from typing import Callable, NamedTuple, Optional
+from typing import Callable, NamedTuple
 
-from sotrugla import CLOSE, CLOSE_ALL_PHASES, DILATE, ERODE, OPEN, OPEN_ALL_PHASES, Ticket
-from sotrugla.operations import is_in_all_phases
+from sotrugla import CLOSE, DILATE, ERODE, OPEN, Ticket
 
 
 class Word(NamedTuple):
-    """An operation, what makes a ticket that orders it, and its effect. Two have another that is the same in all
-    phases."""
+    """An operation, what makes a ticket that orders it, and its effect."""
 
     operation: int
     make: Callable[..., Ticket]
     effect: str
-    in_all_phases: Optional[int] = None
 
-
-_FILLED = "light gaps shorter than the segment fill, longer ones stay"
-_GONE = "dark strokes shorter than the segment go, longer ones stay"
 
 WORDS = {
     "erode": Word(ERODE, Ticket.erosion, "dark strokes grow"),
     "dilate": Word(DILATE, Ticket.dilation, "dark strokes shrink; those shorter than the segment go"),
-    "open": Word(OPEN, Ticket.opening, _FILLED, OPEN_ALL_PHASES),
-    "close": Word(CLOSE, Ticket.closing, _GONE, CLOSE_ALL_PHASES),
+    "open": Word(OPEN, Ticket.opening, "light gaps shorter than the segment fill, longer ones stay"),
+    "close": Word(CLOSE, Ticket.closing, "dark strokes shorter than the segment go, longer ones stay"),
 }
 
 
 def word_of(operation: int) -> str:
-    """The word by which the command orders it, in all phases by an option."""
-    return next(word for word, known in WORDS.items() if operation in (known.operation, known.in_all_phases))
-
-
-def in_words(operation: int) -> str:
-    return f"{word_of(operation)} in all phases" if is_in_all_phases(operation) else word_of(operation)
+    return next(word for word, known in WORDS.items() if known.operation == operation)

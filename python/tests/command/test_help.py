@@ -27,11 +27,6 @@ class Help(CommandCase):
         told = "one that exists is written in place, a new one is made as long as TRAY --json"
         self.assertIn(told, " ".join(written.split()))
 
-    def test_all_phases_are_offered_where_there_are_some(self):
-        for word, offered in (("erode", False), ("dilate", False), ("open", True), ("close", True), ("why", True)):
-            written = self.run_apart(word, "--help")[1].decode()
-            self.assertEqual("--all-phases" in written, offered, word)
-
     def test_help_of_show(self):
         status, written, said = self.run_apart("show", "--help")
         self.assertEqual((status, said), (0, ""))

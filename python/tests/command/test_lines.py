@@ -5,8 +5,8 @@ import itertools
 import unittest
 
 import sotrugla
-from sotrugla import CLOSE, CLOSE_ALL_PHASES, CONNECTED, DILATE, ERODE, OPEN, OPEN_ALL_PHASES, PERIODIC, Pixel, Ticket
-from sotrugla.command.picture.lines import Sides, in_phase, line, passes, step, window
+from sotrugla import CLOSE, CONNECTED, DILATE, ERODE, OPEN, PERIODIC, Pixel, Ticket
+from sotrugla.command.picture.lines import Sides, line, passes, step, window
 
 from ..jobs import greys
 
@@ -28,12 +28,6 @@ def tickets():
                 yield Ticket(
                     operation, CONNECTED, dx=dx, dy=dy, length=length, origin=origin, phase=phase, boxes=BOXES
                 )
-
-
-def in_all_phases():
-    for operation, (dx, dy) in itertools.product((OPEN_ALL_PHASES, CLOSE_ALL_PHASES), VECTORS):
-        for length, origin in ((2, 0), (3, 1), (20, 7)):
-            yield Ticket(operation, CONNECTED, dx=dx, dy=dy, length=length, origin=origin, boxes=BOXES)
 
 
 def unhidden(ticket, operation, pixel):
@@ -79,32 +73,15 @@ class Lines(unittest.TestCase):
 
     def test_the_library_names_the_first_steps_of_these_windows(self):
         for ticket in [*tickets()][::4]:
-            pages = stages(ticket)
+            pages, done = stages(ticket), passes(ticket.operation)
             for pixel in pages[0]:
-                self.names_the_first(sotrugla.why_pgm(ticket, FILE, **pixel._asdict()), ticket, pages)
-
-    def test_all_phases(self):
-        """The library takes the phases together as the brute force does, and names the lowest that gives the result."""
-        for ticket in in_all_phases():
-            phases = range(max(abs(ticket.dx), abs(ticket.dy)))
-            every = [stages(in_phase(ticket, phase)) for phase in phases]
-            extreme = max if ticket.operation == OPEN_ALL_PHASES else min
-            last = {pixel: extreme(pages[-1][pixel] for pages in every) for pixel in UNHIDDEN}
-            finished = sotrugla.run_pgm(ticket, FILE).file[-len(PIXELS) :]
-            self.assertEqual(bytes(last.get(pixel, 6) for pixel in PIXELS), finished, ticket)
-            for pixel, grey in last.items():
                 reason = sotrugla.why_pgm(ticket, FILE, **pixel._asdict())
-                self.assertEqual(reason.phase, next(one for one in phases if every[one][-1][pixel] == grey))
-                self.names_the_first(reason, in_phase(ticket, reason.phase), every[reason.phase])
-
-    def names_the_first(self, reason, ticket, pages):
-        """Whether the steps are the first of the windows. The pages are those before and behind each pass."""
-        done, taking, grey = passes(ticket.operation), reason.pixel, pages[-1][reason.pixel]
-        if len(done) == 2:
-            taking = self.first(unhidden(ticket, done[1], reason.pixel), pages[1], grey)
-            self.assertEqual(reason.through, taking)
-        wanted = self.first(unhidden(ticket, done[0], taking), pages[0], grey)
-        self.assertEqual((reason.from_, reason.grey), (wanted, grey))
+                taking = pixel
+                if len(done) == 2:
+                    taking = self.first(unhidden(ticket, done[1], pixel), pages[1], pages[2][pixel])
+                    self.assertEqual(reason.through, taking)
+                wanted = self.first(unhidden(ticket, done[0], taking), pages[0], pages[-1][pixel])
+                self.assertEqual((reason.from_, reason.grey), (wanted, pages[-1][pixel]))
 
     def first(self, steps, page, grey):
         return next(at for at in steps if page[at] == grey)

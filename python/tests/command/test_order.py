@@ -2,8 +2,7 @@
 
 import unittest
 
-from sotrugla import CLOSE, CLOSE_ALL_PHASES, CONNECTED, DILATE, ERODE, OPEN, OPEN_ALL_PHASES, PERIODIC
-from sotrugla import Ticket, read_ticket, refusals, run_pgm
+from sotrugla import CLOSE, CONNECTED, DILATE, ERODE, OPEN, PERIODIC, Ticket, read_ticket, run_pgm
 
 from .support import ALONG, CLEAN, PAGE, TICKET, CommandCase
 
@@ -32,12 +31,6 @@ class Made(CommandCase):
     def test_phase(self):
         self.assertEqual(self.made(*ALONG, "--phase", "4").phase, 4)
 
-    def test_all_phases(self):
-        for word, operation in (("open", OPEN_ALL_PHASES), ("close", CLOSE_ALL_PHASES)):
-            ticket = Ticket(operation, CONNECTED, dx=5, dy=3, length=4, origin=2)
-            self.assertEqual(self.made(*ALONG, "--all-phases", operation=word), ticket)
-            self.assertEqual(self.made(*ALONG, "--all-phases", "--phase", "0", operation=word), ticket)
-
     def test_periodic(self):
         ticket = Ticket(OPEN, PERIODIC, dx=2, dy=2, length=3, origin=1)
         self.assertEqual(self.made("--along", "2,2", "--length", "3", "--periodic"), ticket)
@@ -62,22 +55,13 @@ class Refusals(CommandCase):
             (("--along", "5,3", "--length", "0"), "refused 7 at 15: "),
             (("--along", "5,3", "--length", "8193"), "refused 7 at 15: "),
             (("--along", "5,3", "--length", "3", "--origin", "3"), "refused 8 at 20: "),
-            (("--along", "5,3", "--length", "3", "--phase", "5"), "refused 9 at 25: the phase is not allowed "),
-            ((*ALONG, "--all-phases", "--phase", "4"), f"refused 9 at 25: {refusals.PHASE_SENTENCE} "),
-            ((*ALONG, "--all-phases", "--periodic"), "refused 20 at 4: a periodic line has no phases "),
+            (("--along", "5,3", "--length", "3", "--phase", "5"), "refused 9 at 25: "),
             ((*ALONG, *["--hide", "0,0,1,1"] * 65), "refused 5 at 734: "),
         ]
         for words, wanted in cases:
             said = self.refused(*words, "--write-ticket", self.at("ticket"))
             self.assertTrue(said.startswith(wanted), said)
             self.assertEqual(said.count("\n"), 1)
-
-    def test_words_that_have_one_phase_at_a_time(self):
-        for word in ("erode", "dilate"):
-            status, said = self.run_here(word, self.at("missing"), "-o", self.at("out/"), *ALONG, "--all-phases")
-            self.assertEqual((status, self.names()), (2, []))
-            wanted = f"--all-phases is for open and close; {word} has one phase at a time\n"
-            self.assertTrue(said.endswith(wanted), said)
 
     def test_numbers_without_a_place(self):
         for words in (("--along", "40000,1", "--length", "3"), ("--along", "1,0", "--length", "70000")):
@@ -115,8 +99,7 @@ class Ready(CommandCase):
     def test_not_with_options_that_make_one(self):
         page, ticket = self.put("page"), self.put("ticket", TICKET.encode())
         for words in (
-            ALONG[:2], ALONG[2:], ("--origin", "0"), ("--periodic",), ("--phase", "0"), ("--all-phases",),
-            ("--hide", "1,2,3,4")
+            ALONG[:2], ALONG[2:], ("--origin", "0"), ("--periodic",), ("--phase", "0"), ("--hide", "1,2,3,4")
         ):  # fmt: skip
             status, said = self.run_here("close", page, "-o", self.at("out"), "--ticket", ticket, *words)
             self.assertEqual(status, 2)
@@ -129,15 +112,6 @@ class Ready(CommandCase):
         self.assertEqual(status, 2)
         self.assertIn(f"{ticket} orders close, not open", said)
         self.assertEqual(self.names(), ["page", "ticket"])
-
-    def test_in_all_phases(self):
-        """The ticket says so itself: its word is the same."""
-        order = Ticket.closing(along=(5, 3), length=4, all_phases=True)
-        page, ticket, out = self.put("page"), self.put("ticket", order.encode()), self.at("out")
-        self.assertEqual(self.run_here("close", page, "-o", out, "--ticket", ticket), (0, ""))
-        self.assertEqual((self.folder / "out").read_bytes(), run_pgm(order, PAGE).file)
-        status, said = self.run_here("open", page, "-o", out, "--ticket", ticket)
-        self.assertEqual((status, f"{ticket} orders close in all phases, not open" in said), (2, True), said)
 
     def test_a_refused_one(self):
         page, ticket = self.put("page"), self.put("ticket", TICKET.encode()[:-1])

@@ -1,7 +1,5 @@
 """Pictures of reasons: well-formed, with every mark, nothing of what is hidden, and small however long the segment."""
 
-import dataclasses
-import functools
 import importlib.util
 import io
 import itertools
@@ -15,7 +13,7 @@ from sotrugla import Pixel, Ticket
 from sotrugla.command import picture
 from sotrugla.command.picture import flags, marks, png, svg
 from sotrugla.command.picture.drawing import Cells, Words, width_of, wrapped
-from sotrugla.command.picture.lines import Sides, in_phase, passes
+from sotrugla.command.picture.lines import Sides
 from sotrugla.command.picture.views import Room, View, around, shown
 
 from ..jobs import greys
@@ -28,8 +26,7 @@ SIDES = (60, 45)
 FILE = b"P5 60 45 255\n" + greys(*SIDES)
 SVG = "{http://www.w3.org/2000/svg}"
 VECTORS = [(1, 0), (0, 1), (1, 1), (2, -1), (-1, 3)]
-IN_ALL_PHASES = [functools.partial(make, all_phases=True) for make in (Ticket.opening, Ticket.closing)]
-MAKERS = (Ticket.erosion, Ticket.dilation, Ticket.opening, Ticket.closing, *IN_ALL_PHASES)
+MAKERS = (Ticket.erosion, Ticket.dilation, Ticket.opening, Ticket.closing)
 
 
 def drawn(ticket, column, row, file=FILE, name="page.pgm"):
@@ -48,28 +45,13 @@ def named(drawing):
 
 class Marks(unittest.TestCase):
     def test_two_passes(self):
-        for make, along in itertools.product((Ticket.opening, Ticket.closing, *IN_ALL_PHASES), VECTORS):
+        for make, along in itertools.product((Ticket.opening, Ticket.closing), VECTORS):
             reason, drawing = drawn(make(along=along, length=5), 30, 20)
             self.assertEqual(texts(drawing, "title"), ["BEFORE", "BETWEEN THE PASSES", "AFTER"])
             self.assertLessEqual({"asked", "through", "from", "window", "line", "pole"}, named(drawing))
             said = " ".join(texts(drawing, "sentence"))
             self.assertEqual(said, f"{reason}.".capitalize())
             self.assertEqual(drawing.title, str(reason))
-
-    def test_all_phases(self):
-        """The line, the windows and the page between the passes are those of the phase that decides."""
-        for make, column in itertools.product(IN_ALL_PHASES, range(20, 40)):
-            ticket = make(along=(5, 3), length=5)
-            reason, drawing = drawn(ticket, column, 20)
-            self.assertTrue(drawing.title.endswith(f", in phase {reason.phase}"))
-            self.assertIn(f"the line in phase {reason.phase}", texts(drawing, "legend"))
-            self.assertIn(" in all phases along a connected line 5,3 (30.96deg), ", texts(drawing, "order")[0])
-            first = in_phase(dataclasses.replace(ticket, operation=passes(ticket.operation)[0]), reason.phase)
-            wanted = [sotrugla.run_pgm(order, FILE).file[-SIDES[0] * SIDES[1] :] for order in (first, ticket)]
-            before, between, after = picture.panels.panels(FILE, ticket, reason)
-            self.assertEqual([between.stage.pixels, after.stage.pixels], wanted)
-            self.assertIn(reason.through, between.window)
-            self.assertIn(reason.from_, before.window)
 
     def test_one_pass(self):
         for make, along in itertools.product((Ticket.erosion, Ticket.dilation), VECTORS):

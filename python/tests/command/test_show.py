@@ -2,7 +2,7 @@
 
 import unittest
 
-from sotrugla import CLOSE, CLOSE_ALL_PHASES, CONNECTED, DILATE, ERODE, OPEN, OPEN_ALL_PHASES, PERIODIC, Ticket
+from sotrugla import CLOSE, CONNECTED, DILATE, ERODE, OPEN, PERIODIC, Ticket
 from sotrugla.command.show import in_words
 
 from .support import TICKET, CommandCase
@@ -38,20 +38,6 @@ class Words(unittest.TestCase):
         for operation, word in ((ERODE, "erode"), (DILATE, "dilate"), (OPEN, "open"), (CLOSE, "close")):
             words = in_words(Ticket(operation, CONNECTED, dx=1, dy=0, length=2))
             self.assertTrue(words.startswith(f"operation  {word}: "), words)
-
-    def test_all_phases(self):
-        self.assertEqual(
-            in_words(Ticket(OPEN_ALL_PHASES, CONNECTED, dx=-3, dy=5, length=9, origin=4)),
-            "operation  open in all phases: light gaps shorter than the segment fill, longer ones stay\n"
-            "line       connected, along -3,5 (120.96deg)\n"
-            "phase      all, 0 to 4\n"
-            "length     9 steps\n"
-            "origin     step 4 of 0 to 8, its middle\n"
-            "hidden     nothing\n",
-        )
-        words = in_words(Ticket(CLOSE_ALL_PHASES, CONNECTED, dx=1, dy=0, length=2))
-        self.assertTrue(words.startswith("operation  close in all phases: dark strokes "), words)
-        self.assertIn("\nphase      all, which is 0 alone\n", words)
 
     def test_middles(self):
         for length, middle in ((1, 0), (2, 1), (3, 1), (4, 2), (5, 2), (8192, 4096)):

@@ -23,12 +23,7 @@ from .support import CommandCase
 COLUMNS = ["page", "ticket", "width", "height", "source_offset", "source_stride", "output_offset", "output_stride"]
 CLOSING = sotrugla.Ticket.closing(along=(1, 0), length=3, hide=[(0, 0, 2, 1)]).encode()
 OPENING = sotrugla.Ticket.opening(along=(1, 1), length=2).encode()
-IN_ALL_PHASES = [
-    sotrugla.Ticket.closing(along=(2, 1), length=3, periodic=periodic, all_phases=True).encode()
-    for periodic in (False, True)
-]
 TICKETS = {"close.ticket": CLOSING, "open.ticket": OPENING, "bad.ticket": b""}
-TICKETS.update(zip(("phases.ticket", "periodic.ticket"), IN_ALL_PHASES))
 TRAY = greys(40, 10)
 
 
@@ -140,14 +135,6 @@ class Lists(TrayCase):
             self.ran(order)
             self.assertEqual(self.content("out"), single(order, bytearray(len(TRAY)))[0])
             os.remove(self.at("out"))
-
-    def test_all_phases_beside_others(self):
-        jobs = [job(), job(ticket="phases.ticket", output_offset=100), job(ticket="periodic.ticket", output_offset=200)]
-        rows = self.ran(jobs, status=1).splitlines()
-        wanted, works = single(jobs, bytearray(len(TRAY)))
-        self.assertEqual(self.content("out"), wanted)
-        self.assertEqual([int(row.split()[-1]) for row in rows[1:4]], works)
-        self.assertRegex(rows[3], "^  3  one   refused 20 at 4  a periodic line has no phases to take together: ")
 
     def test_no_job(self):
         head = "job  page  answer  sentence  work\n"
@@ -313,14 +300,13 @@ class Trays(TrayCase):
             job(source_stride=4),
             job(source_stride=16385),
             job(output_offset=2**20 - 31),
-            job(ticket="bad.ticket"),
         ]
         name = self.put("list", as_json([*refused, *(listed for listed, _ in kept)]))
         for out in ("out", "used"):
             with mock.patch("os.posix_fallocate") as reserved, mock.patch.object(files, "put") as told:
                 self.assertEqual(self.run_here("tray", name, self.at("tray"), "-o", self.at(out)), (1, ""))
             self.assertEqual([call.args[1:] for call in reserved.call_args_list], [span for _, span in kept])
-            self.assertTrue(told.call_args.args[1].endswith(b"\n3 of 14 pages finished\n"))
+            self.assertTrue(told.call_args.args[1].endswith(b"\n3 of 13 pages finished\n"))
 
     def test_a_disk_that_keeps_no_room(self):
         name, out = self.put("list", as_csv(JOBS)), self.at("out")

@@ -13,7 +13,6 @@ from .support import ALONG, PAGE, SIDES, TICKET, CommandCase
 ORDER = ("--operation", "close", *ALONG)
 PIXEL = ("--pixel", "12,7")
 REASON = sotrugla.why_pgm(TICKET, PAGE, column=12, row=7)
-ALL_PHASES = sotrugla.Ticket.closing(along=(5, 3), length=4, all_phases=True)
 HIDING = ("--hide", "0,0,1,1", "--hide", "11,6,3,2")
 
 
@@ -37,14 +36,6 @@ class Sentence(CommandCase):
             _, written, _ = self.run_apart("why", "-", *PIXEL, "--operation", word, *ALONG, given=PAGE)
             wanted = sotrugla.why_pgm(make(along=(5, 3), length=4), PAGE, column=12, row=7)
             self.assertEqual(written.decode(), f"{wanted}\n")
-
-    def test_in_all_phases(self):
-        reason = sotrugla.why_pgm(ALL_PHASES, PAGE, column=12, row=7)
-        wanted, ticket = (0, f"{reason}\n".encode(), ""), self.put("ticket", ALL_PHASES.encode())
-        self.assertIn(f", in phase {reason.phase}", str(reason))
-        self.assertEqual(self.run_apart("why", "-", *PIXEL, *ORDER, "--all-phases", given=PAGE), wanted)
-        for words in ((), ("--operation", "close")):
-            self.assertEqual(self.run_apart("why", "-", *PIXEL, "--ticket", ticket, *words, given=PAGE), wanted)
 
     def test_a_hidden_pixel(self):
         _, written, _ = self.run_apart("why", "-", *PIXEL, *ORDER, *HIDING, given=PAGE)
@@ -72,14 +63,8 @@ class Json(CommandCase):
         status, told, said = self.told(*PIXEL, *ORDER)
         self.assertEqual((status, said), (0, ""))
         pixels = {name: pixel._asdict() for name, pixel in (("through", REASON.through), ("from", REASON.from_))}
-        numbers = {"refusal": 0, "place": 0, "kind": 4, "grey": REASON.grey, "phase": 0, "all_phases": False}
-        numbers.update({"box": None, "hidden": None})
+        numbers = {"refusal": 0, "place": 0, "kind": 4, "grey": REASON.grey, "phase": 0, "box": None, "hidden": None}
         self.assertEqual(told, {"pixel": {"column": 12, "row": 7}, **pixels, **numbers, "sentence": str(REASON)})
-
-    def test_in_all_phases(self):
-        _, told, _ = self.told(*PIXEL, *ORDER, "--all-phases")
-        reason = sotrugla.why_pgm(ALL_PHASES, PAGE, column=12, row=7)
-        self.assertEqual((told["phase"], told["all_phases"], told["sentence"]), (reason.phase, True, str(reason)))
 
     def test_a_hidden_pixel(self):
         _, told, _ = self.told(*PIXEL, *ORDER, *HIDING)
@@ -124,8 +109,6 @@ class Wrong(CommandCase):
         self.assertIn("argument --operation: invalid choice: 'clean'", self.misused(*PIXEL, "--operation", "clean"))
         said = self.misused(*PIXEL, "--operation", "open", "--along", "2,2", "--length", "4")
         self.assertTrue(said.startswith("refused 6 at 8: "))
-        said = self.misused(*PIXEL, "--operation", "dilate", *ALONG, "--all-phases")
-        self.assertTrue(said.endswith("--all-phases is for open and close; dilate has one phase at a time\n"), said)
 
     def test_ready_tickets(self):
         ticket = self.put("ticket", TICKET.encode())

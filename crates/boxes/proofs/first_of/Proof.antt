@@ -164,7 +164,7 @@ module _ {M : Type 1} {𝓤 : Ura M} (𝓛 : Logic 𝓤) (mem'' : Memory → SPr
   together l =
       qed 𝓛 (‵ ((arr_parts (shares T.the_row) (length xs)).part full_share xs l 0) ∷ []) ∵ fsplit ! $ drop ! $ feq_i ! ℕ (length xs) 64 is.1.0.1 $ fjoin ! $
       use1 𝓛 (‵ (part_at Boxes full_share xs l 0)) (Array-whole 𝓛 T.the_row full_share 64 xs l 0) $
-      use1 𝓛 (some (λ (v : Val). ‵ (fat full_share array l 0 v) ⊛ ‵ (Boxes.own xs (v ∷ [])))) (part_out 𝓛 Boxes refl full_share xs l 0) $ pick ! (λ v. split ! $ keep ! (0 ∷ []) $ by ! (𝓛.laws.at_room array l 0 v))
+      use1 𝓛 (some (λ (v : Val). ‵ (fat full_share array l 0 v) ⊛ ‵ (Boxes.own_val xs (v ∷ [])))) (part_out 𝓛 Boxes refl full_share xs l 0) $ pick ! (λ v. split ! $ keep ! (0 ∷ []) $ by ! (𝓛.laws.at_room array l 0 v))
 
   -- ---- the loan of the array for α
   module _ (α l : ℕ) where

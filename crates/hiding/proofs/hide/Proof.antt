@@ -254,7 +254,7 @@ module _ {M : Type 1} {𝓤 : Ura M} (𝓛 : Logic 𝓤) (mem'' : Memory → SPr
     gives : (v : Val) → ent 𝓤 ((One 𝓛 mem'' run'').post callee v) (H.⇛ (ex 𝓤 (Given_back v)))
     gives v =
         qed 𝓛 (raw ((One 𝓛 mem'' run'').post callee v) ∷ []) ∵ updating ! $
-        use1 𝓛 (later (some (λ (r : Unit {0}). ((‵ (flft (α ∷ []) full_share) ⊛ ‵ ftrue) ⊛ ‵ (Nothing.own r (v ∷ []))) ⊛ raw (ensured 𝓛 one.ended (one.clauses 𝓛 mem'' run'') (α ∷ [], tt) (box s.k, (lay, (lent, (value, tt)))) tt r)))) (id⊢ 𝓤 _) $ await ! tt $ pick ! (λ r.
+        use1 𝓛 (later (some (λ (r : Unit {0}). ((‵ (flft (α ∷ []) full_share) ⊛ ‵ ftrue) ⊛ ‵ (Nothing.own_val r (v ∷ []))) ⊛ raw (ensured 𝓛 one.ended (one.clauses 𝓛 mem'' run'') (α ∷ [], tt) (box s.k, (lay, (lent, (value, tt)))) tt r)))) (id⊢ 𝓤 _) $ await ! tt $ pick ! (λ r.
         split ! $ move ! (1 ∷ []) $ use1 𝓛 (some (λ (ws : List ℕ). given (Left ws) (‵ (finally u8 ε ws)))) (told r) $ pick ! (λ ws. learn ! (λ e.
         move ! (1 ∷ []) $ split ! $ move ! (1 ∷ []) $ feq_l ! (λ u. split ! $ keep ! (0 ∷ 2 ∷ []) $
         at_once ! $ by ! (via 𝓤 (Given_back v ws) (guard_i 𝓤 ((v ≡ vunit) × Left ws) _ (ap only u, e)) (ex_i 𝓤 (Given_back v) ws))))))

@@ -164,7 +164,7 @@ module _ {M : Type 1} {𝓤 : Ura M} (𝓛 : Logic 𝓤) (mem'' : Memory → SPr
   together l =
       qed 𝓛 (‵ ((arr_parts (shares T.the_row) (length xs)).part full_share xs l 0) ∷ []) ∵ fsplit ! $ drop ! $ feq_i ! ℕ (length xs) 64 is.1.0.1 $ fjoin ! $
       use1 𝓛 (‵ (part_at Boxes full_share xs l 0)) (Array-whole 𝓛 T.the_row full_share 64 xs l 0) $
-      use1 𝓛 (some (λ (v : Val). ‵ (fat full_share array l 0 v) ⊛ ‵ (Boxes.own xs (v ∷ [])))) (part_out 𝓛 Boxes refl full_share xs l 0) $ pick ! (λ v. split ! $ keep ! (0 ∷ []) $ by ! (𝓛.laws.at_room array l 0 v))
+      use1 𝓛 (some (λ (v : Val). ‵ (fat full_share array l 0 v) ⊛ ‵ (Boxes.own_val xs (v ∷ [])))) (part_out 𝓛 Boxes refl full_share xs l 0) $ pick ! (λ v. split ! $ keep ! (0 ∷ []) $ by ! (𝓛.laws.at_room array l 0 v))
 
   -- ---- the loan of the array for α
   module _ (α l : ℕ) where
@@ -215,7 +215,7 @@ module _ {M : Type 1} {𝓤 : Ura M} (𝓛 : Logic 𝓤) (mem'' : Memory → SPr
       gives : (v : Val) → ent 𝓤 ((All 𝓛 mem'' run'').post callee v) (H.⇛ (ex 𝓤 (Given_back v)))
       gives v =
           qed 𝓛 (raw ((All 𝓛 mem'' run'').post callee v) ∷ []) ∵ updating ! $
-          use1 𝓛 (later (some (λ (r : Unit {0}). ((‵ (flft (α ∷ []) full_share) ⊛ (‵ (flft (β ∷ []) full_share) ⊛ ‵ ftrue)) ⊛ ‵ (Nothing.own r (v ∷ [])))
+          use1 𝓛 (later (some (λ (r : Unit {0}). ((‵ (flft (α ∷ []) full_share) ⊛ (‵ (flft (β ∷ []) full_share) ⊛ ‵ ftrue)) ⊛ ‵ (Nothing.own_val r (v ∷ [])))
           ⊛ raw (ensured 𝓛 hide.ended (hide.clauses 𝓛 mem'' run'') (α ∷ [], (β ∷ [], tt)) (array_ref γ boxes, (lay, (ref d p ε page, (value, tt)))) tt r)))) (id⊢ 𝓤 _) $ await ! tt $ pick ! (λ r.
           split ! $ move ! (1 ∷ []) $ use1 𝓛 (some (λ (ws : List ℕ). given (Left ws) (‵ (finally u8 ε ws)))) (told r) $ pick ! (λ ws. learn ! (λ e.
           move ! (1 ∷ []) $ split ! $ move ! (1 ∷ []) $ feq_l ! (λ u. split ! $ move ! (1 ∷ []) $ split ! $ keep ! (2 ∷ 0 ∷ 3 ∷ []) $

@@ -61,7 +61,7 @@ def _entries(reason: Reason, done: Sequence[int], boxes: Sequence[HiddenBox]) ->
         entries.append(Entry(_ring(FROM), f"from: {reason.from_}, which decides"))
         owners = zip([THROUGH, ASKED][-len(done) :], done)
         entries += [Entry(_outline(role), f"window of the {role.shape} ({word_of(one)})") for role, one in owners]
-        entries.append(Entry(_dots, f"the line in phase {reason.phase}" if reason.all_phases else "the line"))
+        entries.append(Entry(_dots, "the line"))
     if reason.hidden is not None:
         entries.append(Entry(_outline(FROM), f"box {reason.box}, which decides"))
     if boxes:

@@ -3,10 +3,9 @@ library is not asked: the tests hold this to it."""
 
 from __future__ import annotations
 
-import dataclasses
 from typing import Iterator, List, NamedTuple, Sequence
 
-from sotrugla import CLOSE, CLOSE_ALL_PHASES, DILATE, ERODE, OPEN, OPEN_ALL_PHASES, PERIODIC, Pixel, Ticket
+from sotrugla import CLOSE, DILATE, ERODE, OPEN, PERIODIC, Pixel, Ticket
 
 
 class Sides(NamedTuple):
@@ -19,25 +18,12 @@ class Sides(NamedTuple):
         return 0 <= pixel.column < self.width and 0 <= pixel.row < self.height
 
 
-_OPENING, _CLOSING = [ERODE, DILATE], [DILATE, ERODE]
-_PASSES = {
-    ERODE: [ERODE],
-    DILATE: [DILATE],
-    OPEN: _OPENING,
-    CLOSE: _CLOSING,
-    OPEN_ALL_PHASES: _OPENING,
-    CLOSE_ALL_PHASES: _CLOSING,
-}
+_PASSES = {ERODE: [ERODE], DILATE: [DILATE], OPEN: [ERODE, DILATE], CLOSE: [DILATE, ERODE]}
 
 
 def passes(operation: int) -> Sequence[int]:
-    """The erosions and dilations that make an operation, in their order; in all phases, those of each."""
+    """The erosions and dilations that make an operation, in their order."""
     return _PASSES[operation]
-
-
-def in_phase(ticket: Ticket, phase: int) -> Ticket:
-    """The ticket with the lines of this phase. Where all are ordered, a reason names the one that decides."""
-    return dataclasses.replace(ticket, phase=phase)
 
 
 def is_shallow(ticket: Ticket) -> bool:

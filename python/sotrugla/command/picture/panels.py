@@ -11,7 +11,7 @@ from sotrugla import ERODE, HIDDEN_BOX, TWO_PASSES, HiddenBox, Pixel, Reason, Ti
 
 from ..images import up_to_white
 from ..words import word_of
-from .lines import Sides, in_phase, passes, window
+from .lines import Sides, passes, window
 from .views import View
 
 
@@ -78,15 +78,14 @@ def panels(file: bytes, ticket: Ticket, reason: Reason) -> List[Panel]:
             last._replace(box=reason.hidden),
         ]
     words = [_told(operation) for operation in passes(ticket.operation)]
-    lined = in_phase(ticket, reason.phase)
-    whole = window(lined, passes(ticket.operation)[-1], reason.pixel, before.sides)
+    whole = window(ticket, passes(ticket.operation)[-1], reason.pixel, before.sides)
     if reason.kind != TWO_PASSES:
         named, said = [*asked, (FROM, reason.from_)], f"{words[0]} of the square's window"
         return [Panel("BEFORE", said, before, named, whole, ASKED, is_source=True), last]
     one = passes(ticket.operation)[0]
-    between = Stage.read(sotrugla.run_pgm(dataclasses.replace(lined, operation=one), file).file)
+    between = Stage.read(sotrugla.run_pgm(dataclasses.replace(ticket, operation=one), file).file)
     way = [*asked, (THROUGH, reason.through)]
-    named, first = [*way, (FROM, reason.from_)], window(lined, one, reason.through, before.sides)
+    named, first = [*way, (FROM, reason.from_)], window(ticket, one, reason.through, before.sides)
     said = [f"first pass: {words[0]} of the diamond's window", f"second pass: {words[1]} of the square's window"]
     return [
         Panel("BEFORE", said[0], before, named, first, THROUGH, is_source=True),

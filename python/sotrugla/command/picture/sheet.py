@@ -10,11 +10,11 @@ from sotrugla import CONNECTED, HiddenBox, Pixel, Reason, Ticket
 from ..along import angle_of
 from ..faults import shown as in_one_line
 from ..files import STANDARD
-from ..words import in_words
+from ..words import word_of
 from . import cells, flags
 from .drawing import FAINT, INK, Drawing, Part, Words, wrapped
 from .legend import Strip, legend
-from .lines import Sides, in_phase, is_shallow, line, passes
+from .lines import Sides, is_shallow, line, passes
 from .marks import Frame
 from .panels import Panel, panels
 from .views import LARGEST, Room, View, shown
@@ -102,7 +102,7 @@ def drawing(name: str, file: bytes, ticket: Ticket, reason: Reason) -> Drawing:
         parts += texts.at(EDGE, top)
         top += texts.height
     top += GAP // 2
-    steps = [] if reason.hidden else line(in_phase(ticket, reason.phase), reason.pixel, sides)
+    steps = [] if reason.hidden else line(ticket, reason.pixel, sides)
     for slot, (right, down) in zip(slots, places):
         parts += slot.drawn(EDGE + right, top + down, steps)
     foot, bottom = legend(reason, passes(ticket.operation), boxes, note, Strip(EDGE, top + height + GAP, width))
@@ -161,7 +161,7 @@ def _head(name: str, sides: Sides, ticket: Ticket, reason: Reason, width: int) -
     kind = "connected" if ticket.line == CONNECTED else "periodic"
     phase = f", phase {ticket.phase}" if ticket.phase else ""
     vector = f"{kind} line {ticket.dx},{ticket.dy} ({angle_of(ticket.dx, ticket.dy):.2f}deg){phase}"
-    order = f"{in_words(ticket.operation)} along a {vector}, length {ticket.length}, origin {ticket.origin}"
+    order = f"{word_of(ticket.operation)} along a {vector}, length {ticket.length}, origin {ticket.origin}"
     page = "standard input" if name == STANDARD else in_one_line(os.path.basename(name))
     about = f"{page}, {sides.width} by {sides.height} pixels; {order}"
     sentence = str(reason)[0].upper() + f"{reason}."[1:]

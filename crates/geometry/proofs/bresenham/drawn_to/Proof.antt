@@ -3,6 +3,7 @@
 use mathlib.Core.Path.{◌≡◌, sym, ap, ◌∙◌}
 use Prim.Native.Nat.{◌+◌, ◌-◌, ◌≤◌}
 use native.Mathlib.Omega.{arith}
+use borrow.Author.Rules.{rules}
 use Rattle.geometry.specs.Bresenham.{pen_at}
 use Rattle.geometry.proofs.Pens.{pen_start, pen_column}
 use Rattle.geometry.proofs.bresenham.drawn_to.Statement.{statement}
@@ -18,10 +19,7 @@ loop-holds : tie.Need-loop-init invariant_loop decreases_loop
 loop-holds c = (omega arith, sym (pen_start c.args.major c.args.minor c.requires.0))
 
 step-requires : tie.Need-step-requires invariant_loop decreases_loop
-step-requires c κs =
-    let turn = c.before.before in
-    let pre = turn.before.requires in
-    (pre.0, (turn.loop.invariant.1, omega (arith, pre.1)))
+step-requires c κs = search rules
 
 -- the pen's column after a step
 stepped : (c : tie.After-step invariant_loop decreases_loop)

@@ -9,8 +9,8 @@ use Rattle.job.proofs.job.finish.Tie as tie
 recipe-of-requires : tie.Need-recipe-of-requires
 recipe-of-requires c κs = c.before.before.before.requires.ticket
 
-filter-page-requires : tie.Need-filter-page-requires
-filter-page-requires c κs =
+filter-requires : tie.Need-filter-requires
+filter-requires c κs =
     fits_all _ _ _ _ _ c.before.before.before.before.before.before.before.before.requires _ _ _ _ c.before.before.before.before.recipe-of.ensures c.before.before.before.source-page.ensures c.before.before.output-page.ensures
 
 scratch-needed-requires : tie.Need-scratch-needed-requires
@@ -25,7 +25,7 @@ clear-requires c κs =
     omega (
       arith,
       used_room start.args.t start.args.p _ _ _ start.requires _ (needed_as start.args.t start.args.p _ _ c.before.before.pages-of.ensures c.before.scratch-needed.ensures),
-      c.before.before.before.before.before.before.before.filter-page.ensures.same_length,
+      c.before.before.before.before.before.before.before.filter.ensures.same_length,
     )
 
 returns : tie.Need-returns
@@ -33,7 +33,7 @@ returns c =
     let start = c.before.before.before.before.before.before.before.before.before.before.before.before.before.before.before.before.before.before.before in
     finished_all _ _ _ _ _ _ _ _ _ _ start.requires _ _ _ _ c.before.before.before.before.before.before.before.before.before.before.before.before.before.before.before.recipe-of.ensures c.before.before.before.before.before.before.before.before.before.before.before.before.before.before.source-page.ensures c.before.before.before.before.before.before.before.before.before.before.before.before.before.output-page.ensures
     (needed_as start.args.t start.args.p _ _ c.before.before.before.before.before.pages-of.ensures c.before.before.before.before.scratch-needed.ensures)
-    c.before.before.before.before.before.before.before.before.before.before.filter-page.ensures
+    c.before.before.before.before.before.before.before.before.before.before.filter.ensures
     c.before.before.clear.ensures
 
 pub finish_spec : {M : Type 1} → statement M
@@ -43,7 +43,7 @@ finish_spec =
     recipe-of-requires
     (λ c κs. search rules)
     (λ c κs. search rules)
-    filter-page-requires
+    filter-requires
     (λ c κs. search rules)
     scratch-needed-requires
     clear-requires

@@ -2,14 +2,11 @@
 -- Assumes nothing.
 use mathlib.Core.Path.{refl}
 use Prim.Native.Nat.{◌-◌}
-use native.Mathlib.Nat.{le_refl}
 use native.Mathlib.Omega.{arith}
+use borrow.Author.Rules.{rules}
 use Rattle.runs.proofs.Planning.{rows_back, own_near, place_near}
 use Rattle.planning.proofs.plans.forward_plan.Statement.{statement}
 use Rattle.planning.proofs.plans.forward_plan.Tie as tie
-
-edge-requires : tie.Need-edge-requires
-edge-requires c κs = (c.before.before.requires.0, le_refl _, omega arith)
 
 mul-to : tie.Need-overflow-mul-to
 mul-to c = record { fits = omega (arith, own_near _ _ _ _ _ c.before.before.before.requires.0) }
@@ -41,4 +38,4 @@ returns c =
     }
 
 pub forward-plan-spec : {M : Type 1} → statement M
-forward-plan-spec = tie.close (tie.spec edge-requires mul-to add-to sub-t9 mul-t10 returns)
+forward-plan-spec = tie.close (tie.spec (λ c κs. search rules) mul-to add-to sub-t9 mul-t10 returns)

@@ -4,6 +4,7 @@
 use mathlib.Core.Path.{refl, ap}
 use Prim.Native.Nat.{ℕ, ◌+◌, ◌*◌, ◌-◌}
 use native.Mathlib.Omega.{arith}
+use borrow.Author.Rules.{rules}
 use Rattle.runs.proofs.Bounds.{product}
 use Rattle.runs.proofs.Planning.{rows_back, own_near, place_near, place_on_near}
 use Rattle.planning.proofs.plans.result_plan.Statement.{statement}
@@ -36,12 +37,6 @@ add_start c =
     let a = start.args in
     let sized = start.requires.0.0.sized in
     record { fits = omega (arith, place_near _ _ _ _ _ start.requires.0.0 (a.row - a.g.back * a.g.period) (omega arith), product sized.height_most sized.width_most) }
-
-place-on-requires : tie.Need-place-on-requires
-place-on-requires c κs =
-    let pre = c.before.before.before.before.requires in
-    let sized = pre.0.0.sized in
-    (pre.0.0, omega (arith, sized.length_is, sized.length_most), pre.0.1)
 
 mul-t12 : tie.Need-overflow-mul-t12
 mul-t12 c = record { fits = omega (arith, own_near _ _ _ _ _ c.before.before.before.before.before.requires.0.0) }
@@ -79,7 +74,7 @@ result-plan-spec =
     sub-start
     mul-start-2
     add_start
-    place-on-requires
+    (λ c κs. search rules)
     mul-t12
     add-t14
     add-t13

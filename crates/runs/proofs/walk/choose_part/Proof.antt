@@ -41,12 +41,12 @@ choose-part-spec =
     (λ c. search rules)
     (λ c. search rules)
     choose-into-requires
-    (λ c. c.before.before.choose-into.ensures.0.kept.same_length)
+    (λ c. search rules)
     returns
     (λ c. search rules)
     (λ c. search rules)
     (λ c. search rules)
     (λ c. search rules)
     choose-run-requires
-    (λ c. c.before.before.choose-run.ensures.0.kept.same_length)
-    (λ c. c.before.before.choose-run.ensures))
+    (λ c. search rules)
+    (λ c. search rules))

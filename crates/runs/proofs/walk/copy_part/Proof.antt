@@ -22,5 +22,5 @@ copy-part-spec =
     (λ c. search rules)
     (λ c. search rules)
     copy-run-requires
-    (λ c. c.before.before.copy_run.ensures.kept.same_length)
-    (λ c. c.before.before.copy_run.ensures))
+    (λ c. search rules)
+    (λ c. search rules))

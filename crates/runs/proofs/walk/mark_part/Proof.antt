@@ -49,12 +49,12 @@ mark-part-spec =
     (λ c. search rules)
     (λ c. search rules)
     mark-into-requires
-    (λ c. c.before.before.mark-into.ensures.0.kept.same_length)
+    (λ c. search rules)
     returns
     (λ c. search rules)
     (λ c. search rules)
     (λ c. search rules)
     (λ c. search rules)
     mark-run-requires
-    (λ c. c.before.before.mark-run.ensures.0.kept.same_length)
-    (λ c. c.before.before.mark-run.ensures))
+    (λ c. search rules)
+    (λ c. search rules))

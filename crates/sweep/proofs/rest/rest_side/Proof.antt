@@ -3,7 +3,6 @@
 use mathlib.Core.Path.{◌≡◌, sym, subst, ◌∙◌}
 use mathlib.Core.List.{List}
 use Prim.Native.Nat.{ℕ, ◌-◌, zero-le}
-use native.Mathlib.Nat.{le_refl}
 use native.Mathlib.Omega.{arith}
 use borrow.Author.Rules.{rules}
 use Rattle.sweep.specs.Sweeps.{PartDone, cost_at}
@@ -18,16 +17,6 @@ use Rattle.sweep.proofs.rest.rest_side.Tie as tie
 -- a part from column 0 under another name of that column
 from_zero : (g : Grid) (R lo hi : ℕ) (old new : List ℕ) (count : ℕ) → lo ≡ 0 → PartDone Result g R 0 hi old new count → PartDone Result g R lo hi old new count
 from_zero g R lo hi old new count none done = subst (λ (n : ℕ). PartDone Result g R n hi old new count) (sym none) done
-
-each-part-requires : tie.Need-each-part-requires
-each-part-requires c κs =
-    let pre = c.before.before.before.before.before.before.before.before.requires in
-    ((pre.0.0, pre.0.1), (pre.1.0, le_refl _, pre.1.1, pre.1.2))
-
-far-edge-requires : tie.Need-far-edge-requires
-far-edge-requires c κs =
-    let at = c.before.before.before.before.before.before.before.requires.0.0 in
-    (at, omega (arith, c.if1.false, at.sized.length_is, at.sized.length_most))
 
 bottom-part-requires : tie.Need-bottom-part-requires
 bottom-part-requires c κs =
@@ -77,10 +66,10 @@ rest-side-spec =
     tie.close
     (tie.spec
     (λ c κs. search rules)
-    each-part-requires
+    (λ c κs. search rules)
     (λ c. search rules)
     (λ c. search rules)
-    far-edge-requires
+    (λ c κs. search rules)
     (λ c κs. search rules)
     bottom-part-requires
     each-part-requires-2

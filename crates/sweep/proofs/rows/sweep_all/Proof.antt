@@ -8,12 +8,6 @@ use Rattle.sweep.proofs.Paging.{total_small, lowered_small, pass_kept, pass_made
 use Rattle.sweep.proofs.rows.sweep_all.Statement.{statement}
 use Rattle.sweep.proofs.rows.sweep_all.Tie as tie
 
-forward-requires : tie.Need-forward-requires
-forward-requires c κs =
-    let swept = c.before.before.before in
-    let pre = swept.before.before.before.before.before.before.requires in
-    (pre.0, pre.1, omega (arith, pre.2, swept.backward.ensures.kept.same_length), pre.3)
-
 add-result : tie.Need-overflow-add-result
 add-result c =
     let start = c.before.before.before.before.before.before.before.before.before.before.before.before in
@@ -33,4 +27,4 @@ returns c =
     }
 
 pub sweep-all-spec : {M : Type 1} → statement M
-sweep-all-spec = tie.close (tie.spec (λ c κs. search rules) forward-requires add-result (λ c. search rules) returns)
+sweep-all-spec = tie.close (tie.spec (λ c κs. search rules) (λ c κs. search rules) add-result (λ c. search rules) returns)

@@ -6,15 +6,7 @@ use Rattle.ticket.proofs.fill.box_at.Tie as tie
 
 returns : tie.Need-returns
 unfolding box_at
-returns c =
-    let width = c.before in
-    let top = width.before in
-    λ i. record {
-      left = top.before.number_at.ensures i;
-      top = top.number-at2.ensures i;
-      width = width.number-at3.ensures i;
-      height = c.number-at4.ensures i;
-    }
+returns c = cc
 
 pub box-at-spec : {M : Type 1} → statement M
 box-at-spec =

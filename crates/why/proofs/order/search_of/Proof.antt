@@ -38,7 +38,7 @@ returns : tie.Need-returns
 returns c =
     let start = c.before.before.before.before.before.before.before in
     search_as start.args.t _ _ _ _ _ c.before.before.before.before.before.before.starts-low.ensures
-    c.before.before.before.before.before.passes_twice_lem.ensures c.before.before.either.ensures
+    c.before.before.before.before.before.passes-twice.ensures c.before.before.either.ensures
     c.before.either2.ensures c.either3.ensures
 
 pub search-of-spec : {M : Type 1} → statement M

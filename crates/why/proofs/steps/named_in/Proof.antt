@@ -40,7 +40,7 @@ returns c =
     let q-is = c.before.before.before.before.before.search-of.ensures in
     let h-is = c.before.before.before.before.first-hit.ensures in
     named_as _ _ _ start.args.row.now start.requires _ q-is _ h-is _ _ _ _
-    c.before.before.before.passes_twice_lem.ensures c.before.before.either.ensures
+    c.before.before.before.passes-twice.ensures c.before.before.either.ensures
     c.before.pixel-in.ensures c.pixel-in2.ensures
 
 pub named-in-spec : {M : Type 1} → statement M

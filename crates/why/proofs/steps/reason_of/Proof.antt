@@ -34,28 +34,26 @@ array-borrow-prefix-row c =
     let ok = c.before.before.before.before.before.before.before.before.before.requires.ticket in
     omega (arith, ok.length_to, c.before.before.no-values.ensures)
 
-slice-aggregate-by-phase-2 : tie.Need-slice-aggregate-by-phase-2
-slice-aggregate-by-phase-2 c =
+slice-aggregate-by-steps-2 : tie.Need-slice-aggregate-by-steps-2
+slice-aggregate-by-steps-2 c =
     let ok = c.before.before.before.before.before.before.before.before.before.before.requires.ticket in
     sym (length-take-le _ _ (omega (arith, ok.length_to, c.before.before.before.no-values.ensures)))
 
-by-phase-requires : tie.Need-by-phase-requires
+by-steps-requires : tie.Need-by-steps-requires
 unfolding boxes_of
-by-phase-requires c κs =
+by-steps-requires c κs =
     let start = c.before.before.before.before.before.before.before.before.before.before in
-    let found = c.before.before.before.before.before.before.before.first_of.ensures in
-    let past = c.before.before.before.before.before.if1.false in (
-      record {
-        asked = start.requires;
-        shows = shows start.args.t start.args.at _ found.0 found.1 past;
-      },
-      record {
-        table = c.before.before.before.before.no-entries.ensures;
-        places =
-            places_are start.args.t.length c.before.before.before.no-values.result
-            start.requires.ticket.length_from
-            (omega (arith, start.requires.ticket.length_to, c.before.before.before.no-values.ensures));
-      },
+    let found = c.before.before.before.before.before.before.before.first_of.ensures in (
+      start.requires,
+      let past = c.before.before.before.before.before.if1.false in (
+        shows start.args.t start.args.at _ found.0 found.1 past,
+        (
+          c.before.before.before.before.no-entries.ensures,
+          places_are start.args.t.length c.before.before.before.no-values.result
+              start.requires.ticket.length_from
+              (omega (arith, start.requires.ticket.length_to, c.before.before.before.no-values.ensures)),
+        ),
+      ),
     )
 
 returns-2 : tie.Need-returns-2
@@ -64,8 +62,8 @@ returns-2 c =
     let asked = c.before.before.before.before.before.before.before.before in
     let found = asked.before.before in
     let a = found.before.before.before.args in
-    steps_told a.t a.at _ found.first_of.ensures.0 found.first_of.ensures.1 _ _ asked.if1.false _
-    c.before.before.by-phase.ensures
+    c.before.before.by-steps.ensures
+    ∙ steps_told a.t a.at _ found.first_of.ensures.0 found.first_of.ensures.1 _ _ asked.if1.false
 
 pub reason-of-spec : {M : Type 1} → statement M
 reason-of-spec =
@@ -73,4 +71,4 @@ reason-of-spec =
     (tie.spec (λ c κs. c.before.before.requires.ticket.count_to) (λ c κs. search rules) returns (λ c κs. search rules)
     (λ c κs. search rules)
     (λ c. omega (arith, c.before.before.before.before.before.before.before.before.requires.ticket.length_to))
-    sub-places (λ c. search rules) array-borrow-prefix-row slice-aggregate-by-phase-2 by-phase-requires returns-2)
+    sub-places (λ c. search rules) array-borrow-prefix-row slice-aggregate-by-steps-2 by-steps-requires returns-2)

@@ -16,7 +16,7 @@ use Rattle.filter.specs.Absence.{seen_hidden, seen_shown}
 use Rattle.job.specs.Order.{line_of, segment_of}
 use Rattle.job.specs.Job.{finished_with}
 use Rattle.job.specs.Laws.{finished_is}
-use Rattle.filter.specs.Axes.{major_place, minor_place}
+use Rattle.demands.specs.Near.{major_place, minor_place}
 
 -- the page by column and row
 abbrev pub seen_in : Ticket → Placement → List ℕ → View

@@ -1,4 +1,0 @@
-pub mod Presence
-pub mod Entering
-pub mod Joining
-pub mod Making

@@ -1,8 +1,0 @@
-pub mod Pages
-mod UnionLines
-mod UnionPages
-pub mod Union
-mod UnionBoxes
-mod UnionAround
-pub mod UnionMoved
-mod UnionWorked

@@ -1,2 +1,0 @@
-pub mod Union
-pub mod UnionMoved
