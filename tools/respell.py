@@ -1,12 +1,12 @@
 #!/usr/bin/env python3
-"""Brings the repository's own definitions and lemmas to the spelling of words: snake case, where they were in camel case or
-had dashes. port.py respells the library's names and what is spelled like them; this does the rest.
+"""Brings the repository's own definitions and lemmas to the spelling of words: snake case, where they were in camel
+case or had dashes. port.py respells the library's names and what is spelled like them; this does the rest.
 
 usage: tools/respell.py [--dry]     at the top of the repository, once, after port.py
 
 It reads the names that the .antt files of crates/ declare, and writes each one's new spelling wherever it stands as a
-whole word in the .antt and .rt files and the must-fail edits of crates/. Types, modules, names of src/ and names that are
-imported from elsewhere keep theirs. It prints the names that would become one.
+whole word in the .antt and .rt files and the must-fail edits of crates/. Types, modules, names of src/ and names that
+are imported from elsewhere keep theirs. It prints the names that would become one.
 """
 
 import os
@@ -15,10 +15,12 @@ import sys
 
 WORD = re.compile(r"[^\s(){}.;,@\"«»\[\]\\]+")
 USE = re.compile(r"\buse\s+([^\s;{]+)\.\{([^}]*)\}")
-DECLARED = re.compile(r"^ *(?:(?:abbrev|unfoldable|pub|let) )*((?:[^\s(){}.;,@\"«»\[\]\\:]+ +)+?):(?=\s)", re.M)
+DECLARED = re.compile(
+    r"^ *(?:(?:abbrev|unfoldable|pub|let) )*((?:[^\s(){}.;,@\"«»\[\]\\:]+ +)+?)(?:\{[^}:]*\} +)?:(?=\s)", re.M
+)
 TYPED = re.compile(r"^ *(?:pub )?([^\s:]+) : tie\.(?:Need|invariant|decreases)", re.M)
-# A lemma that would have its function's name ends in _lem. These lemmas are in snake case already, and their functions get
-# there now: where they are declared or used.
+# A lemma that would have its function's name ends in _lem. These lemmas are in snake case already, and their functions
+# get there now: where they are declared or used.
 LEMMAS = {
     "in_window": ["crates/demands/proofs/FlipViews.antt"],
     "is_digit": ["crates/pgm/specs/ReadBack.antt"],
@@ -99,7 +101,8 @@ def main():
         if len(names) > 1:
             fallen.append(f"{names} all become {new}")
         if new in declared:
-            fallen.append(f"{names[0]} becomes {new}, declared in {sorted(declared[new])[:3]}, old in {sorted(declared[names[0]])[:3]}")
+            stands, came = sorted(declared[new])[:3], sorted(declared[names[0]])[:3]
+            fallen.append(f"{names[0]} becomes {new}, declared in {stands}, old in {came}")
     print(f"{len(table)} names", file=sys.stderr)
     for it in fallen:
         print("together:", it)
@@ -113,7 +116,7 @@ def main():
         turned = text
         for name, paths in LEMMAS.items():
             if path in paths:
-                turned = re.sub(rf"(?<![\w.'-]){name}(?![\w.'-])", name + "_lem", turned)
+                turned = re.sub(rf"(?<![\w'-])(?<!(?<!named)\.){name}(?![\w.'-])", name + "_lem", turned)
         turned = WORD.sub(lambda it: table.get(it[0], it[0]), turned)
         if turned != text:
             with open(path, "w", encoding="utf-8") as it:
