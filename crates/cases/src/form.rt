@@ -9,7 +9,7 @@ pub const BOXED: usize = 41;
 pub const EMPTY: usize = 0;
 
 // A component of the vector is two bytes: dx is below 256 and has no upper one.
-#[derive(Drop)]
+#[derive(Clone, Copy)]
 pub struct Line {
     kind: u8,
     dx: u8,
@@ -21,10 +21,10 @@ pub struct Line {
 pub fn connected(dx: u8, dy: u8, phase: u8) -> Line {
     Line {
         kind: 1,
-        dx: dx,
+        dx,
         dy_upper: 0,
-        dy: dy,
-        phase: phase,
+        dy,
+        phase,
     }
 }
 
@@ -32,7 +32,7 @@ pub fn connected(dx: u8, dy: u8, phase: u8) -> Line {
 pub fn falling_by_one(dx: u8) -> Line {
     Line {
         kind: 1,
-        dx: dx,
+        dx,
         dy_upper: 255,
         dy: 255,
         phase: 0,
@@ -42,9 +42,9 @@ pub fn falling_by_one(dx: u8) -> Line {
 pub fn periodic(dx: u8, dy: u8) -> Line {
     Line {
         kind: 2,
-        dx: dx,
+        dx,
         dy_upper: 0,
-        dy: dy,
+        dy,
         phase: 0,
     }
 }
@@ -56,7 +56,8 @@ pub fn level() -> Line {
 
 // Fields 1 to 6 with values of zero, then a box at column 1 and row 0 of one pixel.
 fn blank() -> [u8; 41] {
-    *b"\x01\0\x01\0\x02\0\x01\0\x03\0\x04\0\0\0\0\x04\0\x02\0\0\x05\0\x02\0\0\x06\0\x02\0\0\x07\0\x08\0\x01\0\0\0\x01\0\x01"
+    *b"\x01\0\x01\0\x02\0\x01\0\x03\0\x04\0\0\0\0\x04\0\x02\0\0\x05\0\x02\0\0\x06\0\x02\0\0\
+        \x07\0\x08\0\x01\0\0\0\x01\0\x01"
 }
 
 // A filled form, of which a case takes the bytes it wants.

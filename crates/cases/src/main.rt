@@ -4,6 +4,8 @@
 // work that they do not state is counted by the rule; but the lines of cases 1, 8, 10 and 11 and of the short tray had
 // been seen from this program before they were stored. The same cases stand apart from it in the proved table
 // (worked/specs/Cases.antt) and in the tests of the second program (compare/tests/small_cases.rs, flips.rs).
+#![tactic(auto)]
+
 mod form;
 mod text;
 
@@ -12,6 +14,7 @@ ghost use Rattle.std.specs.Prelude.{◌≤◌};
 use form::ticket;
 use placement::{Placements, Spot};
 use refusal::report;
+use std::io;
 
 // Operations by their numbers in a ticket.
 const ERODE: u8 = 1;
@@ -24,13 +27,21 @@ const CLOSE: u8 = 4;
 
 // Runs the job of a ticket's first bytes on a page of rows of three pixels, which fills its output tray, and prints
 // the answer.
-fn run(name: &[u8], bytes: [u8; 41], size: usize, source: &[u8], height: usize, output: &mut [u8])
+fn run(
+    rt: &impl Print,
+    name: &str,
+    bytes: [u8; 41],
+    size: usize,
+    source: &[u8],
+    height: usize,
+    output: &mut [u8],
+) -> io::Result<()>
     requires { size ≤ 41 }
 {
     let mut scratch = [0u8; 27];
     let placements = Placements {
         width: 3,
-        height: height,
+        height,
         source: Spot {
             offset: 0,
             stride: 3,
@@ -41,93 +52,100 @@ fn run(name: &[u8], bytes: [u8; 41], size: usize, source: &[u8], height: usize, 
         },
     };
     let answer = job::job::run(&bytes[..size], placements, source, output, &mut scratch);
-    text::print_name(name);
+    text::print_name(rt, name)?;
     if report::is_done(answer) {
-        text::print_done(report::work(answer), output);
+        text::print_done(rt, report::work(answer), output)
     } else {
-        text::print_refused(report::number(answer), report::place(answer));
+        text::print_refused(rt, report::number(answer), report::place(answer))
     }
 }
 
 // A case on the row 9 1 5.
-fn row(name: &[u8], bytes: [u8; 41], size: usize)
+fn row(rt: &impl Print, name: &str, bytes: [u8; 41], size: usize) -> io::Result<()>
     requires { size ≤ 41 }
 {
     let mut output = [0u8; 3];
-    run(name, bytes, size, b"\x09\x01\x05", 1, &mut output);
+    run(rt, name, bytes, size, b"\x09\x01\x05", 1, &mut output)
 }
 
 // The same with no hidden box.
-fn plain(name: &[u8], bytes: [u8; 41]) {
-    row(name, bytes, form::BARE);
+fn plain(rt: &impl Print, name: &str, bytes: [u8; 41]) -> io::Result<()> {
+    row(rt, name, bytes, form::BARE)
 }
 
 // A case on the rows 1 2 3 / 4 5 6 / 7 8 9.
-fn square(name: &[u8], bytes: [u8; 41]) {
+fn square(rt: &impl Print, name: &str, bytes: [u8; 41]) -> io::Result<()> {
     let mut output = [0u8; 9];
     let page = b"\x01\x02\x03\x04\x05\x06\x07\x08\x09";
-    run(name, bytes, form::BARE, page, 3, &mut output);
+    run(rt, name, bytes, form::BARE, page, 3, &mut output)
 }
 
 // A case on the same rows flipped top to bottom.
-fn flipped_square(name: &[u8], bytes: [u8; 41]) {
+fn flipped_square(rt: &impl Print, name: &str, bytes: [u8; 41]) -> io::Result<()> {
     let mut output = [0u8; 9];
     let page = b"\x07\x08\x09\x04\x05\x06\x01\x02\x03";
-    run(name, bytes, form::BARE, page, 3, &mut output);
+    run(rt, name, bytes, form::BARE, page, 3, &mut output)
 }
 
 // A case whose source tray has a byte less than the row 9 1 5.
-fn short_tray(name: &[u8], bytes: [u8; 41]) {
+fn short_tray(rt: &impl Print, name: &str, bytes: [u8; 41]) -> io::Result<()> {
     let mut output = [0u8; 3];
-    run(name, bytes, form::BARE, b"\x09\x01", 1, &mut output);
+    run(rt, name, bytes, form::BARE, b"\x09\x01", 1, &mut output)
 }
 
-fn cases_on_the_row() {
+fn cases_on_the_row(rt: &impl Print) -> io::Result<()> {
     let level = form::level();
-    plain(b"1", ticket(ERODE, level, 2, 0));
-    plain(b"2", ticket(DILATE, level, 2, 0));
-    plain(b"3", ticket(OPEN, level, 2, 0));
-    plain(b"4", ticket(CLOSE, level, 2, 0));
-    plain(b"5", ticket(OPEN, level, 2, 1));
-    plain(b"6 erode", ticket(ERODE, level, 1, 0));
-    plain(b"6 dilate", ticket(DILATE, level, 1, 0));
-    plain(b"6 open", ticket(OPEN, level, 1, 0));
-    plain(b"6 close", ticket(CLOSE, level, 1, 0));
-    plain(b"7", ticket(ERODE, level, 8192, 0));
-    row(b"8", ticket(OPEN, level, 2, 0), form::BOXED);
-    row(b"9", ticket(OPEN, level, 3, 0), form::BOXED);
-    row(b"10", ticket(ERODE, level, 2, 0), form::EMPTY);
+    plain(rt, "1", ticket(ERODE, level, 2, 0))?;
+    plain(rt, "2", ticket(DILATE, level, 2, 0))?;
+    plain(rt, "3", ticket(OPEN, level, 2, 0))?;
+    plain(rt, "4", ticket(CLOSE, level, 2, 0))?;
+    plain(rt, "5", ticket(OPEN, level, 2, 1))?;
+    plain(rt, "6 erode", ticket(ERODE, level, 1, 0))?;
+    plain(rt, "6 dilate", ticket(DILATE, level, 1, 0))?;
+    plain(rt, "6 open", ticket(OPEN, level, 1, 0))?;
+    plain(rt, "6 close", ticket(CLOSE, level, 1, 0))?;
+    plain(rt, "7", ticket(ERODE, level, 8192, 0))?;
+    row(rt, "8", ticket(OPEN, level, 2, 0), form::BOXED)?;
+    row(rt, "9", ticket(OPEN, level, 3, 0), form::BOXED)?;
+    row(rt, "10", ticket(ERODE, level, 2, 0), form::EMPTY)
 }
 
-fn cases_on_the_square() {
-    square(b"11", ticket(ERODE, form::periodic(1, 1), 3, 1));
-    square(b"12", ticket(DILATE, form::connected(2, 1, 0), 2, 1));
-    square(b"13", ticket(DILATE, form::connected(2, 1, 1), 2, 1));
-    flipped_square(b"12 flipped", ticket(DILATE, form::falling_by_one(2), 2, 1));
+fn cases_on_the_square(rt: &impl Print) -> io::Result<()> {
+    square(rt, "11", ticket(ERODE, form::periodic(1, 1), 3, 1))?;
+    square(rt, "12", ticket(DILATE, form::connected(2, 1, 0), 2, 1))?;
+    square(rt, "13", ticket(DILATE, form::connected(2, 1, 1), 2, 1))?;
+    flipped_square(
+        rt,
+        "12 flipped",
+        ticket(DILATE, form::falling_by_one(2), 2, 1),
+    )
 }
 
-fn cases_at_the_limits() {
+fn cases_at_the_limits(rt: &impl Print) -> io::Result<()> {
     let level = form::level();
     plain(
-        b"14 connected (2, 2)",
+        rt,
+        "14 connected (2, 2)",
         ticket(ERODE, form::connected(2, 2, 0), 2, 0),
-    );
+    )?;
     plain(
-        b"14 periodic (2, 2)",
+        rt,
+        "14 periodic (2, 2)",
         ticket(ERODE, form::periodic(2, 2), 2, 0),
-    );
+    )?;
     plain(
-        b"14 vector (0, 0)",
+        rt,
+        "14 vector (0, 0)",
         ticket(ERODE, form::connected(0, 0, 0), 2, 0),
-    );
-    plain(b"15 L 8192", ticket(ERODE, level, 8192, 0));
-    plain(b"15 L 8193", ticket(ERODE, level, 8193, 0));
-    plain(b"15 o = L", ticket(ERODE, level, 2, 2));
-    short_tray(b"15 tray a byte short", ticket(ERODE, level, 2, 0));
+    )?;
+    plain(rt, "15 L 8192", ticket(ERODE, level, 8192, 0))?;
+    plain(rt, "15 L 8193", ticket(ERODE, level, 8193, 0))?;
+    plain(rt, "15 o = L", ticket(ERODE, level, 2, 2))?;
+    short_tray(rt, "15 tray a byte short", ticket(ERODE, level, 2, 0))
 }
 
-fn main() {
-    cases_on_the_row();
-    cases_on_the_square();
-    cases_at_the_limits();
+fn main(rt: HostRuntime) -> io::Result<()> {
+    cases_on_the_row(&rt)?;
+    cases_on_the_square(&rt)?;
+    cases_at_the_limits(&rt)
 }

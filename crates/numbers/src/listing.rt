@@ -7,25 +7,17 @@ use geometry::Line;
 use geometry::entry::fill_reach;
 use geometry::number::{ahead_at, behind_at};
 use geometry::profile::fill_profile;
+use std::io;
 use vectors::is_steep;
 
 // Prints the two numbers of a pixel.
-fn print_numbers(behind: usize, ahead: usize) {
-    io::print_decimal(1, behind as u64);
-    io::write_all(1, b"/");
-    io::print_decimal(1, ahead as u64);
-}
-
-fn print_blank() {
-    io::write_all(1, b" ");
-}
-
-fn end_line() {
-    io::write_all(1, b"\n");
+fn print_numbers(rt: &impl Print, behind: usize, ahead: usize) -> io::Result<()> {
+    print!(rt; "{behind}/{ahead}")
 }
 
 // Prints the numbers of the pixel at column c and row r.
 fn print_pixel(
+    rt: &impl Print,
     line: Line,
     profile: &[usize],
     reach: &[usize],
@@ -33,51 +25,65 @@ fn print_pixel(
     h: usize,
     c: usize,
     r: usize,
-)
+) -> io::Result<()>
     requires listed { Listed line profile.now reach.now w h }
     requires c_lt_w { c < w }
     requires r_lt_h { r < h }
 {
     if is_steep(line.dx, line.dy) {
         print_numbers(
+            rt,
             behind_at(line, profile, reach, h, w, r, c),
             ahead_at(line, profile, h, w, r, c),
-        );
+        )
     } else {
         print_numbers(
+            rt,
             behind_at(line, profile, reach, w, h, c, r),
             ahead_at(line, profile, w, h, c, r),
-        );
+        )
     }
 }
 
 // Prints the numbers of one row, and ends the line.
-fn print_row(line: Line, profile: &[usize], reach: &[usize], w: usize, h: usize, r: usize)
+fn print_row(
+    rt: &impl Print,
+    line: Line,
+    profile: &[usize],
+    reach: &[usize],
+    w: usize,
+    h: usize,
+    r: usize,
+) -> io::Result<()>
     requires listed { Listed line profile.now reach.now w h }
     requires r_lt_h { r < h }
 {
-    print_pixel(line, profile, reach, w, h, 0, r);
-    let mut c: usize = 1;
-    while c < w {
-        print_blank();
-        print_pixel(line, profile, reach, w, h, c, r);
-        c += 1;
+    print_pixel(rt, line, profile, reach, w, h, 0, r)?;
+    for c in 1..w {
+        print!(rt; " ")?;
+        print_pixel(rt, line, profile, reach, w, h, c, r)?;
     }
-    end_line();
+    println!(rt)
 }
 
-fn print_page(line: Line, profile: &[usize], reach: &[usize], w: usize, h: usize)
+fn print_page(
+    rt: &impl Print,
+    line: Line,
+    profile: &[usize],
+    reach: &[usize],
+    w: usize,
+    h: usize,
+) -> io::Result<()>
     requires { Listed line profile.now reach.now w h }
 {
-    let mut r: usize = 0;
-    while r < h {
-        print_row(line, profile, reach, w, h, r);
-        r += 1;
+    for r in 0..h {
+        print_row(rt, line, profile, reach, w, h, r)?;
     }
+    Ok(())
 }
 
 // Lists a page of at most 4096 pixels: no side is longer than the tables.
-pub fn list(line: Line, w: usize, h: usize)
+pub fn list(rt: &impl Print, line: Line, w: usize, h: usize) -> io::Result<()>
     requires allowed { Allowed line }
     requires sides { Sides w h }
 {
@@ -85,5 +91,5 @@ pub fn list(line: Line, w: usize, h: usize)
     let mut reach = [0usize; 4096];
     fill_profile(line, &mut profile);
     fill_reach(&profile, &mut reach);
-    print_page(line, &profile, &reach, w, h);
+    print_page(rt, line, &profile, &reach, w, h)
 }

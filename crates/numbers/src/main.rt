@@ -1,26 +1,30 @@
 // Lists the number of each pixel on its line. Reads an order of 11 bytes from standard input: the kind of line (1
 // connected, 2 periodic), dx and dy (signed), phase, width and height, two bytes each, big-endian. Prints a line of
 // text for each row of the page with `behind/ahead` for each pixel, or `bad input`.
+#![tactic(auto)]
+
 mod listing;
 mod order;
 
-fn main() {
-    // one byte more than an order has, so that a longer input is seen
-    let mut bytes = [0u8; 12];
-    let got = io::read_full(0, &mut bytes);
-    if got != 11 {
-        refuse();
-        return;
-    }
-    let asked = order::read(&bytes);
-    if order::is_good(asked) {
-        let line = asked.line;
-        listing::list(line, asked.w, asked.h);
-    } else {
-        refuse();
-    }
+use std::io;
+use std::io::Read;
+
+// One byte more than an order has, so that a longer input is seen.
+const MOST_INPUT: u64 = 12;
+
+fn refuse(rt: &impl Print) -> io::Result<()> {
+    println!(rt; "bad input")
 }
 
-fn refuse() {
-    io::write_all(1, b"bad input\n");
+fn main(rt: HostRuntime) -> io::Result<()> {
+    let mut input = Vec::new(rt.alloc());
+    rt.stdin().take(MOST_INPUT).read_to_end(&mut input)?;
+    let Some(asked) = order::read(&input) else {
+        return refuse(&rt);
+    };
+    if order::is_good(asked) {
+        listing::list(&rt, asked.line, asked.w, asked.h)
+    } else {
+        refuse(&rt)
+    }
 }

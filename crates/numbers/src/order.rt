@@ -1,5 +1,5 @@
 // The order: a line and the sides of a page.
-ghost use Rattle.std.specs.Prelude.{◌≡◌, true, ◌||◌, ◌≤◌, ◌<◌};
+ghost use Rattle.std.specs.Prelude.{◌≡◌, true, ◌||◌, ◌≤◌, ◌<◌, ◌↔◌, IsSome, length};
 ghost use Rattle.vectors.specs.Vector.{major_of, shallow, steep};
 ghost use Rattle.geometry.specs.Drift.{Allowed};
 ghost use Rattle.numbers.specs.Page.{Good, Sides};
@@ -7,7 +7,7 @@ ghost use Rattle.numbers.specs.Page.{Good, Sides};
 use geometry::Line;
 use vectors::{component_size, is_shallow, is_steep, major_of};
 
-#[derive(Drop)]
+#[derive(Clone, Copy)]
 pub struct Order {
     pub kind: u8,
     pub line: Line,
@@ -29,12 +29,17 @@ fn signed(n: usize) -> i32
     if n < 32768 {
         n as i32
     } else {
-        0 - ((65536 - n) as i32)
+        -((65536 - n) as i32)
     }
 }
 
-// The order that the first 11 of 12 bytes hold.
-pub fn read(bytes: &[u8; 12]) -> Order {
+// The order that 11 bytes hold. Fewer or more hold none.
+pub fn read(bytes: &[u8]) -> Option<Order>
+    ensures { IsSome result ↔ (length bytes.now ≡ 11) }
+{
+    if bytes.len() != 11 {
+        return None;
+    }
     let kind = bytes[0];
     let line = Line {
         periodic: kind == 2,
@@ -42,12 +47,12 @@ pub fn read(bytes: &[u8; 12]) -> Order {
         dy: signed(word(bytes[3], bytes[4])),
         phase: word(bytes[5], bytes[6]),
     };
-    Order {
-        kind: kind,
-        line: line,
+    Some(Order {
+        kind,
+        line,
         w: word(bytes[7], bytes[8]),
         h: word(bytes[9], bytes[10]),
-    }
+    })
 }
 
 // Whether the phase is below the larger component, or 0 of a periodic line.

@@ -3,13 +3,19 @@
 // in decimal.
 //
 // `stdin` is case 3 of document 01, the opening of the row 9 1 5, and `stdout` the two lines that it asks for.
+#![tactic(auto)]
+
 mod text;
 
 ghost use Rattle.std.specs.Prelude.{◌+◌, ◌<◌, ◌≤◌, length};
 
-use libc::STDIN_FILENO;
 use placement::{Placements, Spot};
 use refusal::report;
+use std::io;
+use std::io::Read;
+
+// Longer than any good input, 6 + 800 + 8192 bytes, so that a longer one is seen.
+const MOST_INPUT: u64 = 65536;
 
 // Width, height and ticket length.
 const HEAD: usize = 6;
@@ -19,6 +25,9 @@ const LONGEST_TICKET: usize = 800;
 
 // "`too big` if w·h is above 8192"
 const MOST_PIXELS: usize = 8192;
+
+// As much scratch as is ever lent.
+const MOST_SCRATCH: usize = 65536;
 
 fn wide(b: u8) -> usize
     ensures { result < 256 }
@@ -49,7 +58,7 @@ fn larger(a: usize, b: usize) -> usize
     if a < b { b } else { a }
 }
 
-// The scratch that a page needs, or all 65,536 bytes of the buffer. Only a page with a zero side can need more, as
+// The scratch that a page needs, or all 65,536 bytes of the array. Only a page with a zero side can need more, as
 // any other has sides of 8192 at most, and it is refused for its sides before the job looks at its scratch: the
 // answer is the same.
 fn scratch_lent(w: usize, h: usize, pixels: usize) -> usize
@@ -59,18 +68,23 @@ fn scratch_lent(w: usize, h: usize, pixels: usize) -> usize
     ensures { result ≤ 65536 }
 {
     let needed = 2 * pixels + 3 * larger(w, h);
-    if needed < 65536 { needed } else { 65536 }
+    if needed < MOST_SCRATCH {
+        needed
+    } else {
+        MOST_SCRATCH
+    }
 }
 
 // Runs the job over trays that are just long enough, and prints its answer.
 fn filter_page(
+    rt: &impl Print,
     ticket: &[u8],
     w: usize,
     h: usize,
     source: &[u8],
     output: &mut [u8],
     scratch: &mut [u8],
-)
+) -> io::Result<()>
     requires { length output.old ≤ 8192 }
 {
     let placements = Placements {
@@ -87,60 +101,63 @@ fn filter_page(
     };
     let answer = job::job::run(ticket, placements, source, output, scratch);
     if report::is_done(answer) {
-        text::print_done(report::work(answer), output, w);
+        text::print_done(rt, report::work(answer), output, w)
     } else {
-        text::print_refused(report::number(answer), report::place(answer));
+        text::print_refused(rt, report::number(answer), report::place(answer))
     }
 }
 
 // Lays out the trays of a page of so many pixels.
-fn lay_out(ticket: &[u8], w: usize, h: usize, pixels: usize, source: &[u8])
+fn lay_out(
+    rt: &impl Print,
+    ticket: &[u8],
+    w: usize,
+    h: usize,
+    pixels: usize,
+    source: &[u8],
+) -> io::Result<()>
     requires w_bound { w < 65536 }
     requires h_bound { h < 65536 }
     requires pixels_bound { pixels ≤ 8192 }
 {
-    let mut output = io::large_buffer();
-    let mut scratch = io::large_buffer();
+    let mut output = [0u8; MOST_PIXELS];
+    let mut scratch = [0u8; MOST_SCRATCH];
     let lent = scratch_lent(w, h, pixels);
     filter_page(
+        rt,
         ticket,
         w,
         h,
         source,
         &mut output[..pixels],
         &mut scratch[..lent],
-    );
+    )
 }
 
 // Judges the input, and answers it: only what is exactly as long as its head says is a page.
-fn answer(input: &[u8]) {
+fn answer(rt: &impl Print, input: &[u8]) -> io::Result<()> {
     if input.len() < HEAD {
-        text::print_bad_input();
-        return;
+        return text::print_bad_input(rt);
     }
     let w = number_at(input, 0);
     let h = number_at(input, 2);
     let size = number_at(input, 4);
     if LONGEST_TICKET < size {
-        text::print_bad_input();
-        return;
+        return text::print_bad_input(rt);
     }
     let pixels = area(w, h);
     if MOST_PIXELS < pixels {
-        text::print_too_big();
-        return;
+        return text::print_too_big(rt);
     }
     let page = HEAD + size;
     if input.len() != page + pixels {
-        text::print_bad_input();
-        return;
+        return text::print_bad_input(rt);
     }
-    lay_out(&input[HEAD..page], w, h, pixels, &input[page..]);
+    lay_out(rt, &input[HEAD..page], w, h, pixels, &input[page..])
 }
 
-// The buffer is longer than any good input, 6 + 800 + 8192 bytes, so that a longer one is seen.
-fn main() {
-    let mut buffer = io::large_buffer();
-    let n = io::read_full(STDIN_FILENO, &mut buffer);
-    answer(&buffer[..n]);
+fn main(rt: HostRuntime) -> io::Result<()> {
+    let mut input = Vec::new(rt.alloc());
+    rt.stdin().take(MOST_INPUT).read_to_end(&mut input)?;
+    answer(&rt, &input)
 }

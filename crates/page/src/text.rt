@@ -1,23 +1,18 @@
 // What the page program prints.
-ghost use Rattle.std.specs.Prelude.{◌+◌, ◌*◌, ◌<◌, ◌≤◌, length};
-ghost use Rattle.io.specs.Counts.{IsPrefixLen};
+ghost use Rattle.std.specs.Prelude.{◌≡◌, ◌+◌, ◌*◌, ◌<◌, ◌≤◌, length, take};
 
-use libc::STDOUT_FILENO;
+use std::io;
 
-pub fn print_bad_input() {
-    io::write_all(STDOUT_FILENO, b"bad input\n");
+pub fn print_bad_input(rt: &impl Print) -> io::Result<()> {
+    println!(rt; "bad input")
 }
 
-pub fn print_too_big() {
-    io::write_all(STDOUT_FILENO, b"too big\n");
+pub fn print_too_big(rt: &impl Print) -> io::Result<()> {
+    println!(rt; "too big")
 }
 
-pub fn print_refused(number: usize, place: usize) {
-    io::write_all(STDOUT_FILENO, b"refused ");
-    io::print_decimal(STDOUT_FILENO, number as u64);
-    io::write_all(STDOUT_FILENO, b" at ");
-    io::print_decimal(STDOUT_FILENO, place as u64);
-    io::write_all(STDOUT_FILENO, b"\n");
+pub fn print_refused(rt: &impl Print, number: usize, place: usize) -> io::Result<()> {
+    println!(rt; "refused {number} at {place}")
 }
 
 // Puts a character at `at` where it is wanted, and answers where the next one goes.
@@ -63,27 +58,24 @@ fn mark_before(left: usize, w: usize) -> u8 {
 // Puts a page of rows of w pixels: single blanks in a row, a newline behind it. It answers the text's length.
 fn put_page(text: &mut [u8], page: &[u8], w: usize) -> usize
     requires { 4 * length page.now ≤ length text.old }
-    ensures { IsPrefixLen result text.new }
+    ensures within { result ≤ length text.new }
+    ensures counted { result ≡ length (take result text.new) }
 {
     let mut at: usize = 0;
     let mut left = w;
-    let mut k: usize = 0;
-    while k < page.len() {
+    for pixel in page {
         left = left_after(left, w);
-        at = put_pixel(text, at, page[k], mark_before(left, w));
-        k += 1;
+        at = put_pixel(text, at, *pixel, mark_before(left, w));
     }
     at
 }
 
 // The rows are collected and written by one call, not by two for each of up to 8192 pixels.
-pub fn print_done(work: u64, page: &[u8], w: usize)
+pub fn print_done(rt: &impl Print, work: u64, page: &[u8], w: usize) -> io::Result<()>
     requires { length page.now ≤ 8192 }
 {
-    io::write_all(STDOUT_FILENO, b"done ");
-    io::print_decimal(STDOUT_FILENO, work);
-    io::write_all(STDOUT_FILENO, b"\n");
-    let mut text = io::large_buffer();
+    println!(rt; "done {work}")?;
+    let mut text = [0u8; 4 * 8192];
     let n = put_page(&mut text, page, w);
-    io::write_all(STDOUT_FILENO, &text[..n]);
+    rt.write_all(&text[..n])
 }

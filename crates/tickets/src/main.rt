@@ -13,61 +13,29 @@
 // It ends inside an entry. Each refusal stands at its first and at its last possible place: 1 and 2 at 0 and 734, 3
 // at 0 and 723, 4 at 0 and 4, 5 at 734, 6 at 8, 7 at 15, 8 at 20, 9 at 25. `stdout` comes from a second reader,
 // written from the document alone.
+#![tactic(auto)]
+
 mod text;
 
 ghost use Rattle.std.specs.Prelude.{◌<◌, ◌≤◌, length};
 
-use libc::STDIN_FILENO;
 use refusal::{Answer, report};
-use ticket::Ticket;
+use std::io;
+use std::io::Read;
 
-fn print_boxes(t: Ticket) {
-    let boxes = t.boxes;
-    let count = t.count;
-    let mut k: usize = 0;
-    while k < 64 {
-        if k < count {
-            let b = boxes[k];
-            text::print_box(b);
-        }
-        k += 1;
-    }
-}
+// A longer list is read no further.
+const LONGEST_LIST: u64 = 65536;
 
-fn print_good(t: Ticket) {
-    text::print_word(b"ticket");
-    text::print_number(t.operation);
-    text::print_number(t.line);
-    text::print_signed(t.dx);
-    text::print_signed(t.dy);
-    text::print_number(t.length);
-    text::print_number(t.origin);
-    text::print_number(t.phase);
-    text::print_number(t.count);
-    print_boxes(t);
-    text::end_line();
-}
-
-fn print_refused(number: usize, place: usize) {
-    text::print_word(b"refused");
-    text::print_number(number);
-    text::print_word(b" at");
-    text::print_number(place);
-    text::end_line();
-}
-
-fn print_ticket(s: &[u8]) {
+fn print_ticket(rt: &impl Print, s: &[u8]) -> io::Result<()> {
     let reading = ticket::read(s);
-    let answer = reading.answer;
-    match answer {
-        Answer::Done(_) => print_good(reading.ticket),
-        Answer::Refused(refusal, place) => print_refused(report::refusal_number(refusal), place),
+    match reading.answer {
+        Answer::Done(_) => text::print_good(rt, &reading.ticket),
+        Answer::Refused(refusal, place) => text::print_refused(
+            rt,
+            report::refusal_number(refusal),
+            place,
+        ),
     }
-}
-
-fn print_cut() {
-    text::print_word(b"cut");
-    text::end_line();
 }
 
 fn wide(b: u8) -> usize
@@ -89,22 +57,22 @@ fn entry_end(list: &[u8], at: usize) -> usize
     if left - 2 < size { 0 } else { at + 2 + size }
 }
 
-fn print_list(list: &[u8]) {
+fn print_list(rt: &impl Print, list: &[u8]) -> io::Result<()> {
     let mut at: usize = 0;
     while at < list.len() {
         let start = at + 2;
         let end = entry_end(list, at);
         if end < start {
-            print_cut();
-            return;
+            return text::print_cut(rt);
         }
-        print_ticket(&list[start..end]);
+        print_ticket(rt, &list[start..end])?;
         at = end;
     }
+    Ok(())
 }
 
-fn main() {
-    let mut buffer = io::large_buffer();
-    let n = io::read_full(STDIN_FILENO, &mut buffer);
-    print_list(&buffer[..n]);
+fn main(rt: HostRuntime) -> io::Result<()> {
+    let mut list = Vec::new(rt.alloc());
+    rt.stdin().take(LONGEST_LIST).read_to_end(&mut list)?;
+    print_list(&rt, &list)
 }

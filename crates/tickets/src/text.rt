@@ -1,47 +1,30 @@
-// Words and numbers on standard output.
-use libc::STDOUT_FILENO;
-use ticket::HiddenBox;
+// The lines on standard output.
+use std::io;
+use ticket::{HiddenBox, Ticket};
 
-pub fn print_word(word: &[u8]) {
-    io::write_all(STDOUT_FILENO, word);
+// A blank, then the box.
+fn print_box(rt: &impl Print, b: HiddenBox) -> io::Result<()> {
+    print!(rt; " {},{},{},{}", b.left, b.top, b.width, b.height)
 }
 
-pub fn end_line() {
-    print_word(b"\n");
-}
-
-// A blank, then the number.
-pub fn print_number(n: usize) {
-    print_word(b" ");
-    io::print_decimal(STDOUT_FILENO, n as u64);
-}
-
-fn magnitude(n: i32) -> u64 {
-    if n < 0 {
-        (0 - n as i64) as u64
-    } else {
-        n as u64
+fn print_boxes(rt: &impl Print, t: &Ticket) -> io::Result<()> {
+    for b in t.boxes.iter().take(t.count) {
+        print_box(rt, *b)?;
     }
+    Ok(())
 }
 
-// A blank, a sign where the number is negative, then its size.
-pub fn print_signed(n: i32) {
-    if n < 0 {
-        print_word(b" -");
-    } else {
-        print_word(b" ");
-    }
-    io::print_decimal(STDOUT_FILENO, magnitude(n));
+pub fn print_good(rt: &impl Print, t: &Ticket) -> io::Result<()> {
+    print!(rt; "ticket {} {} {} {}", t.operation, t.line, t.dx, t.dy)?;
+    print!(rt; " {} {} {} {}", t.length, t.origin, t.phase, t.count)?;
+    print_boxes(rt, t)?;
+    println!(rt)
 }
 
-fn print_side(n: usize) {
-    print_word(b",");
-    io::print_decimal(STDOUT_FILENO, n as u64);
+pub fn print_refused(rt: &impl Print, number: usize, place: usize) -> io::Result<()> {
+    println!(rt; "refused {number} at {place}")
 }
 
-pub fn print_box(b: HiddenBox) {
-    print_number(b.left);
-    print_side(b.top);
-    print_side(b.width);
-    print_side(b.height);
+pub fn print_cut(rt: &impl Print) -> io::Result<()> {
+    println!(rt; "cut")
 }
