@@ -9,7 +9,7 @@ use borrow.Author.Tests.{le-leb, lt-leb}
 use lib.Dec.{leb}
 use lib.ListN.{length, drop}
 use lib.Seq.{sets}
-use Rattle.refusal.specs.Answer.{whenDone}
+use Rattle.refusal.specs.Answer.{when_done}
 use Rattle.refusal.specs.Chain.{unless, ◌then◌}
 use Rattle.refusal.specs.declared.Answer.{Answer}
 use Rattle.refusal.specs.declared.Answer.TheVariants.{Done, Refused}
@@ -130,21 +130,21 @@ module _ (count : ℕ) (l : Lent) (answers : List ℕ) where
       (given : Answer) (stored : List ℕ) → given ≡ list_answer count (length l.jobs) (length answers)
       → stored ≡ list_answers_after count l answers
       → Called count l answers given
-      (whenDone given (trays_after l count).output l.output)
-      (whenDone given (trays_after l count).scratch l.scratch)
+      (when_done given (trays_after l count).output l.output)
+      (when_done given (trays_after l count).scratch l.scratch)
       stored
   unfolding list_output_after list_scratch_after
   called given stored answer-is stored_is = (
     answer-is,
     (
-      ap (λ (a : Answer). whenDone a (trays_after l count).output l.output) answer-is,
-      (ap (λ (a : Answer). whenDone a (trays_after l count).scratch l.scratch) answer-is, stored_is),
+      ap (λ (a : Answer). when_done a (trays_after l count).output l.output) answer-is,
+      (ap (λ (a : Answer). when_done a (trays_after l count).scratch l.scratch) answer-is, stored_is),
     ),
   )
 
   pub answers_short : length answers < answers_needed
       → Called count l answers (Refused (Later NumbersTooFew) answers_needed) l.output l.scratch answers
-  unfolding list_answer list_answers_after unless ◌then◌ whenDone
+  unfolding list_answer list_answers_after unless ◌then◌ when_done
   answers_short short =
       called (Refused (Later NumbersTooFew) answers_needed) answers
       (rw (lt-leb answers_needed (length answers) short) refl)
@@ -156,7 +156,7 @@ module _ (count : ℕ) (l : Lent) (answers : List ℕ) where
 
     pub too_many : (stored : List ℕ) → most_jobs < count → stored ≡ cleared answers_needed answers
         → Called count l answers (Refused (Later TooManyJobs) 0) l.output l.scratch stored
-    unfolding list_answer list_answers_after unless ◌then◌ whenDone
+    unfolding list_answer list_answers_after unless ◌then◌ when_done
     too_many stored many is =
         called (Refused (Later TooManyJobs) 0) stored
         (rw (fits, lt-leb count most_jobs many) refl)
@@ -164,7 +164,7 @@ module _ (count : ℕ) (l : Lent) (answers : List ℕ) where
 
     pub numbers_short : count ≤ most_jobs → length l.jobs < job_numbers count
         → Called count l answers (Refused (Later NumbersTooFew) (job_numbers count)) l.output l.scratch answers
-    unfolding list_answer list_answers_after unless ◌then◌ whenDone
+    unfolding list_answer list_answers_after unless ◌then◌ when_done
     numbers_short few short =
         called (Refused (Later NumbersTooFew) (job_numbers count)) answers
         (rw (fits, le-leb count most_jobs few, lt-leb (job_numbers count) (length l.jobs) short) refl)
@@ -173,7 +173,7 @@ module _ (count : ℕ) (l : Lent) (answers : List ℕ) where
     pub all_called : (zeros stored : List ℕ) (after : Trays) → count ≤ most_jobs → job_numbers count ≤ length l.jobs
         → zeros ≡ cleared answers_needed answers → RanJobs count l zeros after stored
         → Called count l answers (Done 0) after.output after.scratch stored
-    unfolding list_answer list_answers_after unless ◌then◌ whenDone
+    unfolding list_answer list_answers_after unless ◌then◌ when_done
     all_called zeros stored after few numbers clear ran =
         let put : stored ≡ answers_of l count ++ drop answers_needed answers =
         ran.stored_is ∙ ap (λ (d : List ℕ). sets d 0 (told_from l 0 count)) clear ∙ all_told l count answers few room in

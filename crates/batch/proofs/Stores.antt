@@ -12,7 +12,7 @@ use Rattle.tray.specs.Written.{cleared}
 use Rattle.listing.specs.Numbers.{answers_needed, told}
 use Rattle.batch.specs.Batch.{Lent, answer_at}
 use Rattle.batch.specs.Call.{told_from, answers_of}
-use Rattle.batch.specs.Laws.{told_count}
+use Rattle.batch.proofs.Laws.{told_count}
 
 -- what is stored and what is still to be stored make all
 pub told_more : (l : Lent) (k n : ℕ) (a : Answer) (before after all : List ℕ) → a ≡ answer_at l k

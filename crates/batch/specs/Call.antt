@@ -4,7 +4,7 @@
 -- decided here.
 -- Assumes nothing.
 use Rattle.std.specs.Prelude.{cond, List, [], ◌++◌, ℕ, zero, suc, ◌-◌, ◌*◌, leb, length, replicate, drop}
-use Rattle.refusal.specs.Answer.{whenDone}
+use Rattle.refusal.specs.Answer.{when_done}
 use Rattle.refusal.specs.Chain.{unless, ◌then◌}
 use Rattle.refusal.specs.declared.Answer.{Answer}
 use Rattle.refusal.specs.declared.Later.TheVariants.{TooManyJobs, NumbersTooFew}
@@ -29,10 +29,10 @@ answer_of count l answers = list_answer count (length l.jobs) (length answers)
 
 -- the output tray and the scratch: as the last job leaves them, and at a refusal of the list as they were
 unfoldable pub list_output_after : ℕ → Lent → List ℕ → List ℕ
-list_output_after count l answers = whenDone (answer_of count l answers) (trays_after l count).output l.output
+list_output_after count l answers = when_done (answer_of count l answers) (trays_after l count).output l.output
 
 unfoldable pub list_scratch_after : ℕ → Lent → List ℕ → List ℕ
-list_scratch_after count l answers = whenDone (answer_of count l answers) (trays_after l count).scratch l.scratch
+list_scratch_after count l answers = when_done (answer_of count l answers) (trays_after l count).scratch l.scratch
 
 -- the answers of n jobs, from job k on
 unfoldable pub told_from : Lent → ℕ → ℕ → List ℕ

@@ -1,4 +1,3 @@
 pub mod Batch
 pub mod Call
 pub mod Promises
-pub mod Laws

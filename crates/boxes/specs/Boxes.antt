@@ -1,7 +1,7 @@
 -- The hidden boxes of a ticket: what a box covers, what a list of boxes hides, and which boxes a page allows.
 -- Document 01, 'The four filters': "Steps off the page and hidden pixels are absent."
 -- Assumes nothing.
-use Rattle.std.specs.Prelude.{ℕ, ◌+◌, Bool, true, false, not, ◌&&◌, ◌||◌, List, [], ◌∷◌, take, leb, ltb}
+use Rattle.std.specs.Prelude.{ℕ, ◌+◌, Bool, false, not, ◌&&◌, ◌||◌, List, [], ◌∷◌, take, leb, ltb}
 use Rattle.ticket.specs.declared.HiddenBox.{HiddenBox}
 use Rattle.ticket.specs.declared.Ticket.{Ticket}
 use Rattle.boxes.specs.declared.Question.{Question}

@@ -2,6 +2,8 @@
 // No function here writes, and none wraps: each answers for every 64-bit number. A box may lie off the page, and its
 // right and lower edges may lie past every 64-bit number. `first` walks the lent list for whoever asks or judges, above
 // tests on a box's four numbers.
+#![tactic(auto)]
+
 ghost use Rattle.std.specs.Prelude.{◌≡◌, ◌+◌, ◌≤◌, ◌&&◌, leb, ltb, take, length};
 ghost use Rattle.boxes.specs.Boxes.{covers, hidden, boxes_of, box_allowed, answers};
 ghost use Rattle.boxes.specs.First.{first_of};
@@ -10,7 +12,7 @@ ghost use Rattle.ticket.specs.declared.HiddenBox.{HiddenBox};
 use ticket::{HiddenBox, Ticket};
 
 // What is asked of a box: whether it holds a pixel, or whether it is not allowed on a page.
-#[derive(Drop)]
+#[derive(Clone, Copy)]
 pub enum Question {
     Holds { column: usize, row: usize },
     NotAllowed { width: usize, height: usize },

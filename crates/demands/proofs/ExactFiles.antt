@@ -12,7 +12,7 @@ use Rattle.refusal.specs.Answer.{is_done}
 use Rattle.ticket.specs.Laws.{Allowed}
 use Rattle.ticket.specs.declared.Ticket.{Ticket}
 use Rattle.placement.specs.Placement.{byte_of, pixel_in, longest_side, Placed, source_page}
-use Rattle.placement.specs.Laws.{byte_from}
+use Rattle.placement.proofs.Laws.{byte_from}
 use Rattle.placement.specs.declared.Placement.{Placement}
 use Rattle.heading.specs.Writing.{header_of, file_of}
 use Rattle.pgm.specs.ReadBack.{ReadsBack, read_back, header_back}
@@ -20,7 +20,7 @@ use Rattle.pgm.specs.Reading.{judged}
 use Rattle.pgm.specs.declared.Header.{Header}
 use Rattle.job.specs.Job.{finished_with}
 use Rattle.file.specs.FileJob.{header, file_page}
-use Rattle.file.specs.Laws.{rows_end, length_headed, headed_behind}
+use Rattle.file.proofs.Laws.{rows_end, length_headed, headed_behind}
 use Rattle.file.specs.Places.{places_of, headed}
 use Rattle.demands.specs.Exact.{Matters}
 use Rattle.demands.specs.Files.{as_written, FileMatters, FileExact}

@@ -10,12 +10,12 @@ use borrow.Author.Tests.{le-leb}
 use lib.Dec.{leb}
 use Rattle.geometry.specs.Line.{landing, step_of, major_at}
 use Rattle.geometry.specs.Drift.{Sound}
-use Rattle.geometry.specs.Laws.{step_of_major}
+use Rattle.geometry.proofs.Laws.{step_of_major}
 use Rattle.geometry.specs.declared.Line.{Line}
 use Rattle.runs.specs.Span.{best}
 use Rattle.filter.specs.Seen.{View}
 use Rattle.filter.specs.Filters.{joined, extreme, value_at, on_line, in_window, pass_at, pass}
-use Rattle.filter.specs.Laws.{own_on_line, same_line}
+use Rattle.filter.proofs.Laws.{own_on_line, same_line}
 use Rattle.demands.proofs.ExactNumbers.{twice}
 
 -- where all values are there, the extreme is the best of their numbers

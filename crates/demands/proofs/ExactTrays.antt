@@ -12,13 +12,13 @@ use native.Mathlib.Omega.{arith}
 use lib.ListN.{length, get_or, set, replicate, length-set, length-replicate, get_or-replicate, get_or-eq_default}
 use lib.Seq.{get_or-set_same, get_or-set_other}
 use Rattle.geometry.specs.Line.{major_at}
-use Rattle.geometry.specs.Laws.{in_page_landing}
+use Rattle.geometry.proofs.Laws.{in_page_landing}
 use Rattle.geometry.specs.declared.Line.{Line}
 use Rattle.ticket.specs.Laws.{Allowed}
 use Rattle.ticket.specs.declared.Ticket.{Ticket}
 use Rattle.placement.specs.Placement.{byte_of, pixel_in, column_of, row_of, Placed}
 use Rattle.placement.specs.Placement as placement
-use Rattle.placement.specs.Laws.{byte_below, byte_same}
+use Rattle.placement.proofs.Laws.{byte_below, byte_same}
 use Rattle.placement.specs.declared.Placement.{Placement}
 use Rattle.tray.specs.Turned.{down_of, across_of}
 use Rattle.tray.specs.Written.{written}

@@ -5,8 +5,8 @@ use mathlib.Core.List.{List}
 use Prim.Native.Nat.{ℕ, ◌*◌, ◌≤◌, ◌<◌}
 use native.Mathlib.Omega.{arith}
 use lib.ListN.{length, get_or}
-use Rattle.refusal.specs.Answer.{is_done, whenDone}
-use Rattle.refusal.specs.Chain.{◌then◌, then_on, when-done, when-refused}
+use Rattle.refusal.specs.Answer.{is_done, when_done}
+use Rattle.refusal.specs.Chain.{◌then◌, then_on, when_done_lem, when_refused}
 use Rattle.refusal.specs.declared.Answer.{Answer}
 use Rattle.refusal.specs.declared.Answer.TheVariants.{Done}
 use Rattle.ticket.specs.Judging as tickets
@@ -21,7 +21,7 @@ use Rattle.judging.specs.Pages.{job_scratch}
 use Rattle.judging.specs.Judging.{judge_places}
 use Rattle.judging.specs.declared.Lengths.{Lengths}
 use Rattle.file.specs.FileJob.{header, file_page, file_answer, delivery, file_output_after, file_scratch_after}
-use Rattle.file.specs.Laws as files
+use Rattle.file.proofs.Laws as files
 use Rattle.file.specs.Places.{places_of, file_length}
 use Rattle.file.specs.declared.Delivery.{Delivery}
 use Rattle.demands.specs.Files.{source_of, SameRead, FileRefusedOutput, FileRefusedScratch}
@@ -34,7 +34,7 @@ use Rattle.demands.specs.Same.{SameLengths}
 use Rattle.demands.proofs.Near.{near_in}
 use Rattle.demands.proofs.Reach.{finished_same, finished_hidden}
 use Rattle.demands.proofs.Same.{same_lengths}
-use Rattle.demands.proofs.Untouched.{when-either, not_done, no_work}
+use Rattle.demands.proofs.Untouched.{when_either, not_done, no_work}
 use Rattle.demands.proofs.Work.{one_pass_work, two_pass_work}
 
 -- ---- what is written
@@ -42,12 +42,12 @@ use Rattle.demands.proofs.Work.{one_pass_work, two_pass_work}
 pub file_refused_output : FileRefusedOutput
 unfolding file_output_after
 file_refused_output ticket file out scratch refused =
-    when-refused (file_answer ticket file (lengths file out scratch)) _ out (not_done _ refused)
+    when_refused (file_answer ticket file (lengths file out scratch)) _ out (not_done _ refused)
 
 pub file_refused_scratch : FileRefusedScratch
 unfolding file_scratch_after
 file_refused_scratch ticket file out scratch refused =
-    when-refused (file_answer ticket file (lengths file out scratch)) _ scratch (not_done _ refused)
+    when_refused (file_answer ticket file (lengths file out scratch)) _ scratch (not_done _ refused)
 
 pub file_refused_work : FileRefusedWork
 file_refused_work ticket file out scratch refused = no_work (file_answer ticket file (lengths file out scratch)) refused
@@ -55,7 +55,7 @@ file_refused_work ticket file out scratch refused = no_work (file_answer ticket 
 pub file_output_length : FileOutputLength
 unfolding file_output_after
 file_output_length ticket file out scratch =
-    when-either (λ (tray : List ℕ). length tray ≡ length out) (file_answer ticket file (lengths file out scratch)) _ out
+    when_either (λ (tray : List ℕ). length tray ≡ length out) (file_answer ticket file (lengths file out scratch)) _ out
     refl
     (λ work e.
     ap length (sym (files.output_is ticket file out scratch work e))
@@ -65,9 +65,9 @@ pub file_output_kept : FileOutputKept
 unfolding file_output_after delivery is_done
 file_output_kept ticket file out scratch i past =
     let given : Answer = file_answer ticket file (lengths file out scratch) in
-    when-either (λ (tray : List ℕ). get_or tray i 0 ≡ get_or out i 0) given _ out refl
+    when_either (λ (tray : List ℕ). get_or tray i 0 ≡ get_or out i 0) given _ out refl
     (λ work e.
-    let told = when-done given (file_length (header file)) 0 (ap is_done e) in
+    let told = when_done_lem given (file_length (header file)) 0 (ap is_done e) in
     ap (λ (tray : List ℕ). get_or tray i 0) (sym (files.output_is ticket file out scratch work e))
     ∙ files.file_rest ticket file out scratch work e i (omega (arith, past, told)))
 
@@ -79,14 +79,14 @@ file_scratch_zero ticket file out scratch work e i below =
 pub file_scratch_kept : FileScratchKept
 unfolding file_scratch_after
 file_scratch_kept ticket file out scratch i past =
-    when-either (λ (tray : List ℕ). get_or tray i 0 ≡ get_or scratch i 0)
+    when_either (λ (tray : List ℕ). get_or tray i 0 ≡ get_or scratch i 0)
     (file_answer ticket file (lengths file out scratch)) _ scratch refl
     (λ work e. cleared_above (job_scratch (shown ticket) (places_of (header file))) scratch i past)
 
 pub file_scratch_length : FileScratchLength
 unfolding file_scratch_after
 file_scratch_length ticket file out scratch =
-    when-either (λ (tray : List ℕ). length tray ≡ length scratch) (file_answer ticket file (lengths file out scratch)) _
+    when_either (λ (tray : List ℕ). length tray ≡ length scratch) (file_answer ticket file (lengths file out scratch)) _
     scratch
     refl
     (λ work e.
@@ -153,7 +153,7 @@ pub file_same : FileSame
 unfolding delivery
 file_same ticket file file' out out' scratch scratch' read same =
     ap₂ {C = Delivery}
-    (λ (a : Answer) (h : Header). record { answer = a; length = whenDone a (file_length h) 0 })
+    (λ (a : Answer) (h : Header). record { answer = a; length = when_done a (file_length h) 0 })
     (answers ticket file file' out out' scratch scratch' read same)
     read.headers
 

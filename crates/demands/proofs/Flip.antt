@@ -9,7 +9,7 @@ use Prim.Native.Nat.{ℕ, ◌<◌}
 use native.Mathlib.Decide.{dec_lt}
 use native.Mathlib.Omega.{arith}
 use Rattle.geometry.specs.Drift.{mirrored}
-use Rattle.geometry.specs.Laws.{mirrored_below, mirrored_rising}
+use Rattle.geometry.proofs.Laws.{mirrored_below, mirrored_rising}
 use Rattle.ticket.specs.Laws.{Allowed}
 use Rattle.ticket.specs.declared.HiddenBox.{HiddenBox}
 use Rattle.ticket.specs.declared.Ticket.{Ticket}
@@ -20,7 +20,7 @@ use Rattle.tray.specs.Laws.{across_in}
 use Rattle.filter.specs.Seen.{View, seen, turned, runs_steep}
 use Rattle.filter.specs.Axes.{turned_is}
 use Rattle.filter.specs.Filters.{operated, filtered, or_white}
-use Rattle.filter.specs.Absence.{seen_wide, seen_low, seen_hidden, seen_shown, absent_turned}
+use Rattle.filter.proofs.Absence.{seen_wide, seen_low, seen_hidden, seen_shown, absent_turned}
 use Rattle.filter.specs.Work.{work_of}
 use Rattle.filter.specs.declared.Segment.{Segment}
 use Rattle.job.specs.Order.{line_of, segment_of}

@@ -9,8 +9,8 @@ use lib.IntN.{nat_abs}
 use Rattle.vectors.specs.Vector.{shallow, steep}
 use Rattle.geometry.specs.Drift.{mirrored}
 use Rattle.geometry.specs.Flip.{flipped}
-use Rattle.geometry.specs.Laws.{mirrored_below, flipped_runs, flipped_steep, flipped_twice, flipped_level}
-use Rattle.geometry.specs.Laws.{flipped_dx, flipped_dy, flipped_kind, flipped_phase}
+use Rattle.geometry.proofs.Laws.{mirrored_below, flipped_runs, flipped_steep, flipped_twice, flipped_level}
+use Rattle.geometry.proofs.Laws.{flipped_dx, flipped_dy, flipped_kind, flipped_phase}
 use Rattle.geometry.specs.declared.Line.{Line}
 use Rattle.refusal.specs.Chain.{◌then◌, then_on}
 use Rattle.refusal.specs.declared.Answer.{Answer}
@@ -32,7 +32,7 @@ use Rattle.job.specs.Laws.{finished_job, finished_stands, finished_allowed}
 use Rattle.job.specs.Laws.{output_pixel}
 use Rattle.judging.specs.declared.Lengths.{Lengths}
 use Rattle.file.specs.FileJob.{header, file_page}
-use Rattle.file.specs.Laws as files
+use Rattle.file.proofs.Laws as files
 use Rattle.file.specs.Places.{places_of}
 use Rattle.demands.specs.Files.{source_of}
 use Rattle.demands.specs.Flip.{flipped_box, OnPage, FlippedTicket, FlippedAnswer, FlippedJob, FlippedJobWork}

@@ -2,7 +2,7 @@
 -- Assumes nothing.
 use mathlib.Core.Path.{◌≡◌, refl, sym, ap, ap₂, fun_ext, ◌∙◌}
 use mathlib.Core.Bool.{Bool, true, false, ◌||◌, cond}
-use mathlib.Core.Logic.{◌⊎◌, ⊎_elim}
+use mathlib.Core.Logic.{⊎_elim}
 use mathlib.Core.Option.{Option, none, some}
 use Prim.Native.Nat.{ℕ, suc, ◌+◌, ◌-◌, ◌<◌}
 use native.Mathlib.Omega.{arith}
@@ -12,14 +12,14 @@ use Rattle.geometry.specs.Line.{landing, step_of, major_at}
 use Rattle.geometry.specs.Number.{in_page}
 use Rattle.geometry.specs.Drift.{mirrored}
 use Rattle.geometry.specs.Flip.{flipped}
-use Rattle.geometry.specs.Laws.{in_page_landing, out_of_page, flipped_steep, flipped_step}
-use Rattle.geometry.specs.Laws.{flipped_major_at, flipped_landing, flipped_in_page, flipped_behind, flipped_ahead}
+use Rattle.geometry.proofs.Laws.{in_page_landing, out_of_page, flipped_steep, flipped_step}
+use Rattle.geometry.proofs.Laws.{flipped_major_at, flipped_landing, flipped_in_page, flipped_behind, flipped_ahead}
 use Rattle.geometry.specs.declared.Line.{Line}
 use Rattle.runs.specs.Scratch.{total}
 use Rattle.filter.specs.Seen.{View, runs_steep}
 use Rattle.filter.specs.Filters.{extreme, value_at, on_line, in_window, pass_at, pass, eroded, dilation_back, dilated}
 use Rattle.filter.specs.Filters.{opened, closed, erosion, dilation, opening, closing, operated}
-use Rattle.filter.specs.Absence.{pass_off}
+use Rattle.filter.proofs.Absence.{pass_off}
 use Rattle.filter.specs.Sums.{total_same, total_mirrored}
 use Rattle.filter.specs.Work.{charged, charged_at, pass_work, erosion_work, dilation_work, work_of}
 use Rattle.filter.specs.Engine.{Absent}

@@ -13,7 +13,7 @@ use Rattle.tray.specs.Laws.{cleared_below, cleared_above, length_cleared}
 use Rattle.listing.specs.Numbers.{answers_needed, told}
 use Rattle.batch.specs.Batch.{Lent, lent, answer_at}
 use Rattle.batch.specs.Call.{told_from, answers_of, list_answers_after}
-use Rattle.batch.specs.Laws.{list_runs, told_count, answers_at_18, answers_at_100, answers_run, answers_either}
+use Rattle.batch.proofs.Laws.{list_runs, told_count, answers_at_18, answers_at_100, answers_run, answers_either}
 use Rattle.demands.specs.Lists.{ListRun, ListSame, ListTold, ListZeroPast, ListZeroAt18, ListUntoldAt100}
 use Rattle.demands.specs.Lists.{ListAnswersKept, ListAnswersLength}
 use Rattle.demands.proofs.Lists.{answer_same}

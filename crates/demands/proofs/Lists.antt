@@ -1,15 +1,14 @@
 -- The demands on a whole tray in one call, lifted from the job's: each job of a list is a single call.
 -- Assumes nothing.
 use mathlib.Core.Path.{◌≡◌, refl, sym, ap, ap₂, ◌∙◌, subst}
-use mathlib.Core.Bool.{true, false, false≢true}
-use mathlib.Core.Logic.{◌≢◌}
+use mathlib.Core.Bool.{true, false≢true}
 use mathlib.Core.List.{List}
 use Prim.Native.Nat.{ℕ, zero, suc, ◌+◌, ◌-◌, ◌≤◌, ◌<◌}
 use native.Mathlib.Nat.{add-zero, add-suc}
 use native.Mathlib.Omega.{arith}
 use lib.ListN.{length, get_or}
-use Rattle.refusal.specs.Answer.{work_in, is_done, whenDone}
-use Rattle.refusal.specs.Chain.{when-done, when-refused}
+use Rattle.refusal.specs.Answer.{work_in, is_done, when_done}
+use Rattle.refusal.specs.Chain.{when_done_lem, when_refused}
 use Rattle.refusal.specs.declared.Answer.{Answer}
 use Rattle.refusal.specs.declared.Answer.TheVariants.{Done, Refused}
 use Rattle.ticket.specs.Reading.{shown}
@@ -21,14 +20,14 @@ use Rattle.job.specs.Laws.{output_pixel}
 use Rattle.listing.specs.Listed.{places_in, ticket_in, listed_at}
 use Rattle.batch.specs.Batch.{Lent, lent, Trays, trays, single_answer, after_job, trays_after, answer_at}
 use Rattle.batch.specs.Call.{answer_of, list_output_after, list_scratch_after}
-use Rattle.batch.specs.Laws.{ticket_bytes}
+use Rattle.batch.proofs.Laws.{ticket_bytes}
 use Rattle.demands.specs.Same.{SameLengths}
 use Rattle.demands.specs.Untouched.{OffPage}
 use Rattle.demands.specs.Lists.{JobDone, ListSingle, ListRefusedTrays, ListRefusedJob, ListOutputKept}
 use Rattle.demands.specs.Lists.{ListOutputLength, ListScratchKept, ListScratchZero, ListScratchLength}
 use Rattle.demands.specs.Lists.{ListLaterWins, ListPage, ListHidden, ListReach, ListPageAlone, ListExact}
 use Rattle.demands.proofs.Same.{same_answer}
-use Rattle.demands.proofs.Untouched.{when-either, not_done, output_kept_if, output_length, scratch_kept_if}
+use Rattle.demands.proofs.Untouched.{when_either, not_done, output_kept_if, output_length, scratch_kept_if}
 use Rattle.demands.proofs.Untouched.{scratch_length, scratch_zero, scratch_stays_zero, refused_output}
 use Rattle.demands.proofs.Untouched.{refused_scratch}
 use Rattle.demands.proofs.Reach.{reach, page_alone, hidden_white}
@@ -248,8 +247,8 @@ module _ (l : Lent) where
 -- what holds of the trays that are left, and of the trays as they were, holds after every call
 after_call {ℓ} :
     {X : Type ℓ} (P : X → Type 0) (count : ℕ) (l : Lent) (answers : List ℕ) (left kept : X) → P kept → P left
-    → P (whenDone (answer_of count l answers) left kept)
-after_call P count l answers left kept k d = when-either P (answer_of count l answers) left kept k (λ w e. d)
+    → P (when_done (answer_of count l answers) left kept)
+after_call P count l answers left kept k d = when_either P (answer_of count l answers) left kept k (λ w e. d)
 
 pub list_output_kept : ListOutputKept
 unfolding list_output_after
@@ -279,8 +278,8 @@ pub list_refused_trays : ListRefusedTrays
 unfolding list_output_after list_scratch_after
 list_refused_trays count l answers refused =
     let not = not_done (answer_of count l answers) refused in (
-      when-refused (answer_of count l answers) (trays_after l count).output l.output not,
-      when-refused (answer_of count l answers) (trays_after l count).scratch l.scratch not,
+      when_refused (answer_of count l answers) (trays_after l count).output l.output not,
+      when_refused (answer_of count l answers) (trays_after l count).scratch l.scratch not,
     )
 
 pub list_scratch_zero : ListScratchZero
@@ -288,7 +287,7 @@ unfolding list_scratch_after
 list_scratch_zero count l answers k i run below done in_use =
     let more : suc k + (count - suc k) ≡ count = omega arith in
     ap (λ (tray : List ℕ). get_or tray i 0)
-    (when-done (answer_of count l answers) (trays_after l count).scratch l.scratch run)
+    (when_done_lem (answer_of count l answers) (trays_after l count).scratch l.scratch run)
     ∙ ap (λ (n : ℕ). get_or (trays_after l n).scratch i 0) (sym more)
     ∙ trays_scratch_zero l k i done in_use (count - suc k)
 
@@ -298,6 +297,6 @@ list_later_wins count l answers k c r run below done c_in r_in off =
     let byte : ℕ = byte_of (output_page (places_in l.jobs k)) c r in
     let more : suc k + (count - suc k) ≡ count = omega arith in
     ap (λ (tray : List ℕ). get_or tray byte 0)
-    (when-done (answer_of count l answers) (trays_after l count).output l.output run)
+    (when_done_lem (answer_of count l answers) (trays_after l count).output l.output run)
     ∙ ap (λ (n : ℕ). get_or (trays_after l n).output byte 0) (sym more)
     ∙ trays_later l k c r done c_in r_in (count - suc k) (λ j after before. off j after (omega arith))

@@ -7,8 +7,8 @@ use native.Mathlib.Omega.{arith}
 use Rattle.geometry.specs.Line.{landing, step_of, major_at}
 use Rattle.geometry.specs.Number.{in_page}
 use Rattle.geometry.specs.Drift.{Sound}
-use Rattle.geometry.specs.Laws.{own_landing, own_step, major_at_step, major_of_major, step_of_major, landing_onward}
-use Rattle.geometry.specs.Laws.{same_steps, landed_on_page}
+use Rattle.geometry.proofs.Laws.{own_landing, own_step, major_at_step, major_of_major, step_of_major, landing_onward}
+use Rattle.geometry.proofs.Laws.{same_steps, landed_on_page}
 use Rattle.geometry.specs.declared.Line.{Line}
 use Rattle.tray.specs.Laws.{down_in, across_in}
 use Rattle.filter.specs.Seen.{runs_steep}

@@ -12,7 +12,7 @@ use Rattle.placement.specs.declared.Placement.{Placement}
 use Rattle.filter.specs.Seen.{View, seen, turned, runs_steep}
 use Rattle.filter.specs.Axes.{turned_is}
 use Rattle.filter.specs.Filters.{operated, filtered, or_white}
-use Rattle.filter.specs.Absence.{seen_hidden, seen_shown}
+use Rattle.filter.proofs.Absence.{seen_hidden, seen_shown}
 use Rattle.job.specs.Order.{line_of, segment_of}
 use Rattle.job.specs.Job.{finished_with}
 use Rattle.job.specs.Laws.{finished_is}

@@ -9,7 +9,7 @@ use native.Mathlib.Omega.{arith}
 use borrow.Author.Tests.{ltb-true}
 use lib.Dec.{ltb}
 use Rattle.geometry.specs.Line.{landing, step_of, major_at}
-use Rattle.geometry.specs.Laws.{landed_in_page}
+use Rattle.geometry.proofs.Laws.{landed_in_page}
 use Rattle.geometry.specs.declared.Line.{Line}
 use Rattle.ticket.specs.Laws.{Allowed}
 use Rattle.ticket.specs.Reading.{shown}

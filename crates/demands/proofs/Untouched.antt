@@ -8,13 +8,13 @@ use Prim.Native.Nat.{ℕ, ◌≤◌}
 use native.Mathlib.Decide.{dec_lt}
 use native.Mathlib.Omega.{arith}
 use lib.ListN.{length, get_or}
-use Rattle.refusal.specs.Answer.{number_of, work_in, is_done, whenDone}
-use Rattle.refusal.specs.Chain.{when-done, when-refused}
+use Rattle.refusal.specs.Answer.{number_of, work_in, is_done, when_done}
+use Rattle.refusal.specs.Chain.{when_done_lem, when_refused}
 use Rattle.refusal.specs.declared.Answer.{Answer}
 use Rattle.refusal.specs.declared.Answer.TheVariants.{Done, Refused}
 use Rattle.ticket.specs.Reading.{shown}
 use Rattle.placement.specs.Placement.{inside, source_page, output_page}
-use Rattle.placement.specs.Laws.{inside_pixel}
+use Rattle.placement.proofs.Laws.{inside_pixel}
 use Rattle.placement.specs.declared.Placement.{Placement}
 use Rattle.placement.specs.declared.Placements.{Placements}
 use Rattle.tray.specs.Written.{cleared}
@@ -28,12 +28,12 @@ use Rattle.demands.specs.Untouched.{RefusedOutput, RefusedScratch, RefusedWork}
 -- ---- what each answer makes of a tray
 
 -- what holds of a finished tray and of a kept one holds whatever the answer is
-pub when-either {ℓ} :
+pub when_either {ℓ} :
     {X : Type ℓ} (P : X → Type 0) (a : Answer) (done kept : X) → P kept → ((work : ℕ) → a ≡ Done work → P done)
-    → P (whenDone a done kept)
-unfolding whenDone
-when-either P (Done work) done kept k d = d work refl
-when-either P (Refused refusal at) done kept k d = k
+    → P (when_done a done kept)
+unfolding when_done
+when_either P (Done work) done kept k d = d work refl
+when_either P (Refused refusal at) done kept k d = k
 
 -- an answer with a refusal's number is not done, and has no work
 pub not_done : (a : Answer) → (number_of a ≡ 0 → ⊥) → is_done a ≡ false
@@ -63,7 +63,7 @@ pub output_kept_if :
     → get_or (output_after ticket p source out scratch) i 0 ≡ get_or out i 0
 unfolding output_after
 output_kept_if ticket p source out scratch i off =
-    when-either (λ (tray : List ℕ). get_or tray i 0 ≡ get_or out i 0)
+    when_either (λ (tray : List ℕ). get_or tray i 0 ≡ get_or out i 0)
     (answer ticket p (lengths source out scratch)) _ out refl
     (λ work e.
     written_outside (output_page p) (finished (shown ticket) (source_page p) source) out i
@@ -75,7 +75,7 @@ output_kept ticket p source out scratch i off = output_kept_if ticket p source o
 pub output_length : OutputLength
 unfolding output_after
 output_length ticket p source out scratch =
-    when-either (λ (tray : List ℕ). length tray ≡ length out) (answer ticket p (lengths source out scratch)) _ out refl
+    when_either (λ (tray : List ℕ). length tray ≡ length out) (answer ticket p (lengths source out scratch)) _ out refl
     (λ work e. length_written (output_page p) (finished (shown ticket) (source_page p) source) out)
 
 -- a byte that is past what is used if there is a finished page
@@ -85,7 +85,7 @@ pub scratch_kept_if :
     → get_or (scratch_after ticket p source out scratch) i 0 ≡ get_or scratch i 0
 unfolding scratch_after
 scratch_kept_if ticket p source out scratch i past =
-    when-either (λ (tray : List ℕ). get_or tray i 0 ≡ get_or scratch i 0)
+    when_either (λ (tray : List ℕ). get_or tray i 0 ≡ get_or scratch i 0)
     (answer ticket p (lengths source out scratch)) _ scratch refl
     (λ work e. cleared_above (job_scratch (shown ticket) p) scratch i (past work e))
 
@@ -99,7 +99,7 @@ pub scratch_stays_zero :
 unfolding scratch_after
 scratch_stays_zero ticket p source out scratch i none =
     let used : ℕ = job_scratch (shown ticket) p in
-    when-either (λ (tray : List ℕ). get_or tray i 0 ≡ 0) (answer ticket p (lengths source out scratch)) _ scratch none
+    when_either (λ (tray : List ℕ). get_or tray i 0 ≡ 0) (answer ticket p (lengths source out scratch)) _ scratch none
     (λ work e.
     by_cases (dec_lt i used) (λ below. cleared_below used scratch i below)
     (λ past. cleared_above used scratch i (omega arith) ∙ none))
@@ -107,7 +107,7 @@ scratch_stays_zero ticket p source out scratch i none =
 pub scratch_length : ScratchLength
 unfolding scratch_after
 scratch_length ticket p source out scratch =
-    when-either (λ (tray : List ℕ). length tray ≡ length scratch)
+    when_either (λ (tray : List ℕ). length tray ≡ length scratch)
     (answer ticket p (lengths source out scratch)) _ scratch refl
     (λ work e.
     length_cleared (job_scratch (shown ticket) p) scratch
@@ -117,18 +117,18 @@ pub scratch_zero : ScratchZero
 unfolding scratch_after is_done
 scratch_zero ticket p source out scratch work e i below =
     let used : ℕ = job_scratch (shown ticket) p in
-    rw (when-done (answer ticket p (lengths source out scratch)) (cleared used scratch) scratch (ap is_done e))
+    rw (when_done_lem (answer ticket p (lengths source out scratch)) (cleared used scratch) scratch (ap is_done e))
     (cleared_below used scratch i (omega arith))
 
 pub refused_output : RefusedOutput
 unfolding output_after
 refused_output ticket p source out scratch refused =
-    when-refused (answer ticket p (lengths source out scratch)) _ out (not_done _ refused)
+    when_refused (answer ticket p (lengths source out scratch)) _ out (not_done _ refused)
 
 pub refused_scratch : RefusedScratch
 unfolding scratch_after
 refused_scratch ticket p source out scratch refused =
-    when-refused (answer ticket p (lengths source out scratch)) _ scratch (not_done _ refused)
+    when_refused (answer ticket p (lengths source out scratch)) _ scratch (not_done _ refused)
 
 pub refused_work : RefusedWork
 refused_work ticket p source out scratch refused = no_work (answer ticket p (lengths source out scratch)) refused

@@ -12,7 +12,7 @@ use lib.Dec.{ltb}
 use lib.ListN.{length}
 use Rattle.geometry.specs.Line.{landing, step_of, major_at}
 use Rattle.geometry.specs.Drift.{Sound}
-use Rattle.geometry.specs.Laws.{landed_in_page, landed_on_page}
+use Rattle.geometry.proofs.Laws.{landed_in_page, landed_on_page}
 use Rattle.geometry.specs.declared.Line.{Line}
 use Rattle.refusal.specs.Answer.{is_done}
 use Rattle.ticket.specs.Laws.{Allowed}
@@ -29,12 +29,13 @@ use Rattle.filter.specs.Axes.{turned_back, turned_in, down_back, across_back}
 use Rattle.filter.specs.Filters as filters
 use Rattle.filter.specs.Filters.{value_at, on_line, pass, operated, or_white, erosion, dilation, opening, closing}
 use Rattle.filter.specs.Engine.{back_of}
-use Rattle.filter.specs.Laws.{InWindow, Found, pass_absent, pass_some, pass_found}
+use Rattle.filter.proofs.Laws.{pass_absent, pass_some, pass_found}
+use Rattle.filter.specs.Windows.{InWindow, Found}
 use Rattle.job.specs.Order.{line_of, segment_of, white}
 use Rattle.job.specs.Job.{finished, lengths}
 use Rattle.job.specs.Laws.{finished_allowed, line_sound, output_pixel}
 use Rattle.nearby.specs.declared.Pixel.{Pixel}
-use Rattle.why.specs.Laws as laws
+use Rattle.why.proofs.Laws as laws
 use Rattle.why.specs.Named as named
 use Rattle.why.specs.Named.{Once, Twice, NamedStep, along_of, beside_of, first_seen}
 use Rattle.why.specs.Reason.{seen_by, by_steps}
@@ -85,7 +86,7 @@ module _ (t : Ticket) (p : Placement) where
 
   seen_at : (tray : List ℕ) (c r : ℕ) → seen_by t p tray (major_place l c r) (minor_place l c r) ≡ seen_in t p tray c r
   seen_at tray c r =
-      ap (λ (view : View). view (major_place l c r) (minor_place l c r)) (named.seen_by t p tray)
+      ap (λ (view : View). view (major_place l c r) (minor_place l c r)) (named.seen_by_lem t p tray)
       ∙ turned_back steep (seen_in t p tray) c r
 
   source_shows : (tray : List ℕ) → Shows (pixel_in tray p) (seen_by t p tray)
@@ -208,7 +209,7 @@ module _ (t : Ticket) (p : Placement) (tray : List ℕ) (c r : ℕ) where
   finished_by =
       finished_at t p tray c r white
       ∙ ap (λ (view : View). or_white white (operated t.operation (segment_of t) view along beside))
-      (sym (named.seen_by t p tray))
+      (sym (named.seen_by_lem t p tray))
 
   -- a ticket of one pass, at a pixel that is there
   finished_once : Sound (line_of t) → (low : Bool) → back_of (segment_of t) low < t.length → Once t.operation low

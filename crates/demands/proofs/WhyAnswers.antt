@@ -34,9 +34,9 @@ use Rattle.judging.specs.Judging.{judge_page_boxes, judge_places}
 use Rattle.judging.specs.declared.Lengths.{Lengths}
 use Rattle.job.specs.Job.{answer, lengths}
 use Rattle.nearby.specs.declared.Pixel.{Pixel}
-use Rattle.why.specs.Laws as laws
+use Rattle.why.proofs.Laws as laws
 use Rattle.why.specs.Reason.{no_reason, by_box}
-use Rattle.why.specs.Told.{why_answer, lengths_of, told}
+use Rattle.why.specs.Told.{why_answer, lengths_of}
 use Rattle.why.specs.declared.Reason.{Reason}
 use Rattle.why.specs.declared.Told.{Told}
 use Rattle.demands.specs.Why.{WhyRefused, WhyOffPage, WhyNineteen, WhyDone, ByBox, WhyBox, WhySame}

@@ -10,7 +10,7 @@ use native.Mathlib.Decide.{dec_le}
 use native.Mathlib.Omega.{arith}
 use Rattle.geometry.specs.Line.{step_of}
 use Rattle.geometry.specs.Drift.{Sound}
-use Rattle.geometry.specs.Laws.{step_of_major}
+use Rattle.geometry.proofs.Laws.{step_of_major}
 use Rattle.geometry.specs.declared.Line.{Line}
 use Rattle.refusal.specs.Answer.{is_done}
 use Rattle.ticket.specs.Laws.{Allowed}
@@ -23,12 +23,12 @@ use Rattle.filter.specs.Seen.{View}
 use Rattle.filter.specs.Filters as filters
 use Rattle.filter.specs.Filters.{on_line, erosion, dilation, opening, closing}
 use Rattle.filter.specs.Engine.{back_of}
-use Rattle.filter.specs.Laws.{same_line}
+use Rattle.filter.proofs.Laws.{same_line}
 use Rattle.job.specs.Order.{line_of, segment_of, white}
 use Rattle.job.specs.Job.{finished}
 use Rattle.job.specs.Laws.{finished_allowed, line_sound}
 use Rattle.nearby.specs.declared.Pixel.{Pixel}
-use Rattle.why.specs.Laws as laws
+use Rattle.why.proofs.Laws as laws
 use Rattle.why.specs.Named as named
 use Rattle.why.specs.Named.{Once, Twice, NamedStep, SameWindow, along_of, beside_of, first_seen}
 use Rattle.why.specs.Reason.{seen_by, by_steps, reason_of}

@@ -10,12 +10,12 @@ use borrow.Author.Tests.{leb-true}
 use lib.Dec.{leb, eqb}
 use Rattle.geometry.specs.Line.{landing, step_of, major_at}
 use Rattle.geometry.specs.Drift.{Sound}
-use Rattle.geometry.specs.Laws.{step_of_major}
+use Rattle.geometry.proofs.Laws.{step_of_major}
 use Rattle.geometry.specs.declared.Line.{Line}
 use Rattle.filter.specs.Seen.{View}
 use Rattle.filter.specs.Filters.{value_at, on_line, in_window, pass_at, pass, eroded, dilation_back}
 use Rattle.filter.specs.Filters.{dilated, opened, closed, erosion, dilation, opening, closing, operated}
-use Rattle.filter.specs.Laws.{extreme_same, pass_absent, own_on_line, same_line}
+use Rattle.filter.proofs.Laws.{extreme_same, pass_absent, own_on_line, same_line}
 use Rattle.filter.specs.declared.Segment.{Segment}
 
 -- ---- one pass

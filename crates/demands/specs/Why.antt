@@ -18,7 +18,7 @@ use Rattle.placement.specs.Placement.{pixel_in, source_page, output_page}
 use Rattle.placement.specs.declared.Placement.{Placement}
 use Rattle.placement.specs.declared.Placements.{Placements}
 use Rattle.filter.specs.Filters.{erosion, dilation, opening, closing}
-use Rattle.filter.specs.Laws.{InWindow}
+use Rattle.filter.specs.Windows.{InWindow}
 use Rattle.job.specs.Order.{line_of}
 use Rattle.job.specs.Job.{finished, answer, lengths, output_after}
 use Rattle.nearby.specs.declared.Pixel.{Pixel}

@@ -1,3 +1,5 @@
+#![tactic(auto)]
+
 // What a job's answer and its trays depend on, as theorems over the definitions that the job promises (crate job, file
 // Job; crate filter, file Filters). There is no code here. specs/ holds the statements: Same (the answer), Untouched
 // (what a job leaves alone), Work (how much it may be), Near and Reach (which pixels a result depends on), Exact (that

@@ -11,7 +11,7 @@ use lib.Signed.{mag}
 use mir.Val.{to_z, of_z}
 use mir.ValLaws.{to_z_pos, to_z-of_z}
 use Rattle.vectors.specs.Vector.{shallow, steep}
-use Rattle.geometry.specs.Laws.{shallow_forward, shallow_backward, steep_forward, steep_backward}
+use Rattle.geometry.proofs.Laws.{shallow_forward, shallow_backward, steep_forward, steep_backward}
 use Rattle.fields.specs.Fields.{signed16}
 
 pub signed_small : (n : ℕ) → n < 32768 → signed16 n ≡ pos n

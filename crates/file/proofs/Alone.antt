@@ -4,7 +4,7 @@ use mathlib.Core.Bool.{true, false}
 use mathlib.Core.List.{List}
 use Prim.Native.Nat.{ℕ}
 use Rattle.refusal.specs.Answer.{is_done}
-use Rattle.refusal.specs.Chain.{then_on, then_stop, when-done}
+use Rattle.refusal.specs.Chain.{then_on, then_stop, when_done_lem}
 use Rattle.refusal.specs.declared.Answer.{Answer}
 use Rattle.placement.specs.declared.Placements.{Placements}
 use Rattle.pgm.specs.Reading.{judged, header_in, no_header, shown_at, reading}
@@ -24,7 +24,7 @@ module _ (file : List ℕ) (r : Reading) (is : r ≡ reading file) where
   unfolding reading shown_at
   read_header e =
       ap (λ (q : Reading). q.header) is
-      ∙ when-done (judged file) (header_in file) no_header (ap is_done (sym read_answer) ∙ e)
+      ∙ when_done_lem (judged file) (header_in file) no_header (ap is_done (sym read_answer) ∙ e)
 
   pub alone_refused : is_done r.answer ≡ false → r ≡ reading_alone file
   unfolding reading reading_alone judged_alone

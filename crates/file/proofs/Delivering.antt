@@ -6,7 +6,7 @@ use Prim.Native.Nat.{ℕ, ◌+◌, ◌*◌, ◌≤◌}
 use native.Mathlib.Omega.{arith}
 use lib.ListN.{length, drop}
 use Rattle.refusal.specs.Answer.{is_done}
-use Rattle.refusal.specs.Chain.{then_done, when-done, when-refused}
+use Rattle.refusal.specs.Chain.{then_done, when_done_lem, when_refused}
 use Rattle.refusal.specs.declared.Answer.{Answer}
 use Rattle.ticket.specs.declared.Ticket.{Ticket}
 use Rattle.placement.specs.Placement.{Placed, source_page, output_page}
@@ -20,7 +20,7 @@ use Rattle.job.specs.Job.{finished_with, lengths}
 use Rattle.judging.specs.Judging.{judge_places}
 use Rattle.judging.specs.Laws.{stands}
 use Rattle.file.specs.Delivering.{answer_for, Delivered}
-use Rattle.file.specs.Laws.{rows_end}
+use Rattle.file.proofs.Laws.{rows_end}
 use Rattle.file.specs.Places.{header_for, places_of, file_length, headed}
 use Rattle.file.specs.declared.Delivery.{Delivery}
 
@@ -43,8 +43,8 @@ module _ (t : Ticket) (h : Header) (file output scratch mid used : List ℕ) (gi
       subst (Delivered t h file output scratch mid used) (sym so)
       (record {
         answered = answered_so;
-        length_is = sym (when-refused given (file_length h) 0 e);
-        written_is = ran.written_is ∙ when-refused given page output e ∙ sym (when-refused given _ output e);
+        length_is = sym (when_refused given (file_length h) 0 e);
+        written_is = ran.written_is ∙ when_refused given page output e ∙ sym (when_refused given _ output e);
         used_is = ran.used_is;
       })
 
@@ -56,7 +56,7 @@ module _ (t : Ticket) (h : Header) (file output scratch mid used : List ℕ) (gi
         (stands t (places_of h) (lengths file output scratch) done).to
 
     page_is : mid ≡ page
-    page_is = ran.written_is ∙ when-done given page output e
+    page_is = ran.written_is ∙ when_done_lem given page output e
 
     same_length : length mid ≡ length output
     same_length = ap length page_is ∙ length_written _ _ output
@@ -89,7 +89,7 @@ module _ (t : Ticket) (h : Header) (file output scratch mid used : List ℕ) (gi
           answered = answered_so;
           length_is =
               ap (λ (k : ℕ). k + h.width * h.height) (there ∙ ap (λ (q : Placements). q.output.offset) places)
-              ∙ sym (when-done given (file_length h) 0 e);
-          written_is = so ∙ ap (headed (header_for h)) page_is ∙ sym (when-done given _ output e);
+              ∙ sym (when_done_lem given (file_length h) 0 e);
+          written_is = so ∙ ap (headed (header_for h)) page_is ∙ sym (when_done_lem given _ output e);
           used_is = ran.used_is;
         }

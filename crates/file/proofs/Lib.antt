@@ -1,3 +1,4 @@
 pub mod Alone
 pub mod Delivering
 pub mod Running
+pub mod Laws

@@ -3,8 +3,8 @@ use mathlib.Core.Path.{◌≡◌, sym, ap, ◌∙◌, subst}
 use mathlib.Core.Bool.{true, false}
 use mathlib.Core.List.{List}
 use Prim.Native.Nat.{ℕ}
-use Rattle.refusal.specs.Answer.{is_done, whenDone}
-use Rattle.refusal.specs.Chain.{then_on, then_stop, when-refused}
+use Rattle.refusal.specs.Answer.{is_done, when_done}
+use Rattle.refusal.specs.Chain.{then_on, then_stop, when_refused}
 use Rattle.refusal.specs.declared.Answer.{Answer}
 use Rattle.ticket.specs.Judging.{judged}
 use Rattle.ticket.specs.Laws.{reading_good}
@@ -36,9 +36,9 @@ module _ (t : Ticket) (file output scratch : List ℕ) (r : files.Reading) (is :
         answered =
             read_answer file r is
             ∙ sym (then_stop (pgm.judged file) _ (ap is_done (sym (read_answer file r is)) ∙ e));
-        length_is = sym (when-refused r.answer _ 0 e);
-        written_is = sym (when-refused r.answer _ output e);
-        used_is = sym (when-refused r.answer _ scratch e);
+        length_is = sym (when_refused r.answer _ 0 e);
+        written_is = sym (when_refused r.answer _ output e);
+        used_is = sym (when_refused r.answer _ scratch e);
       })
 
   pub file_read :
@@ -66,7 +66,7 @@ module _ (ticket file output scratch : List ℕ) where
       × ((after ≡ file_output_after ticket file output scratch) × (used ≡ file_scratch_after ticket file output scratch))
 
   abbrev told_with : Answer → Delivery
-  told_with a = record { answer = a; length = whenDone a (file_length (header file)) 0 }
+  told_with a = record { answer = a; length = when_done a (file_length (header file)) 0 }
 
   module _ (r : tickets.Reading) (is : r ≡ reading ticket) where
     ticket_answer : r.answer ≡ judged ticket
@@ -81,9 +81,9 @@ module _ (ticket file output scratch : List ℕ) where
         let same = answered e in
         let refused = ap is_done (sym same) ∙ e in (
           so
-              ∙ ap (λ (n : ℕ). record { answer = r.answer; length = n }) (sym (when-refused r.answer _ 0 e))
+              ∙ ap (λ (n : ℕ). record { answer = r.answer; length = n }) (sym (when_refused r.answer _ 0 e))
               ∙ ap told_with same,
-          (sym (when-refused _ _ output refused), sym (when-refused _ _ scratch refused)),
+          (sym (when_refused _ _ output refused), sym (when_refused _ _ scratch refused)),
         )
       where
         answered : is_done r.answer ≡ false → r.answer ≡ file_answer ticket file (lengths file output scratch)
@@ -108,7 +108,7 @@ module _ (ticket file output scratch : List ℕ) where
               mine.written_is
                   ∙ ap
                   (λ (a : Answer).
-                  whenDone a
+                  when_done a
                   (headed (header_for (header file))
                   (written (output_page (places_of (header file))) (file_page (shown ticket) file) output))
                   output)
@@ -116,7 +116,7 @@ module _ (ticket file output scratch : List ℕ) where
               mine.used_is
                   ∙ ap
                   (λ (a : Answer).
-                  whenDone a (cleared (job_scratch (shown ticket) (places_of (header file))) scratch) scratch)
+                  when_done a (cleared (job_scratch (shown ticket) (places_of (header file))) scratch) scratch)
                   same,
             ),
           )

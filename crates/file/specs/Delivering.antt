@@ -2,7 +2,7 @@
 -- (FileJob).
 -- Assumes nothing.
 use Rattle.std.specs.Prelude.{◌≡◌, List, ℕ}
-use Rattle.refusal.specs.Answer.{whenDone}
+use Rattle.refusal.specs.Answer.{when_done}
 use Rattle.refusal.specs.Chain.{◌then◌}
 use Rattle.refusal.specs.declared.Answer.{Answer}
 use Rattle.refusal.specs.declared.Answer.TheVariants.{Done}
@@ -27,22 +27,22 @@ answer_for t h n = judge_places t (places_of h) n then Done (job_work t h.width 
 pub record Delivered (t : Ticket) (h : Header) (file output scratch after used : List ℕ)
     (given : Delivery) : Type 0 where
   pub answered : given.answer ≡ answer_for t h (lengths file output scratch)
-  pub length_is : given.length ≡ whenDone given.answer (file_length h) 0
+  pub length_is : given.length ≡ when_done given.answer (file_length h) 0
   pub written_is :
       after
-      ≡ whenDone given.answer
+      ≡ when_done given.answer
       (headed (header_for h)
       (written (output_page (places_of h)) (finished_with h.maximum t (source_page (places_of h)) file) output))
       output
-  pub used_is : used ≡ whenDone given.answer (cleared (job_scratch t (places_of h)) scratch) scratch
+  pub used_is : used ≡ when_done given.answer (cleared (job_scratch t (places_of h)) scratch) scratch
 
 -- what the job of a ticket that was read does
 pub record RanFile (t : Ticket) (file output scratch after used : List ℕ) (given : Delivery) : Type 0 where
   pub answered : given.answer ≡ (judged file then answer_for t (header_in file) (lengths file output scratch))
-  pub length_is : given.length ≡ whenDone given.answer (file_length (header_in file)) 0
+  pub length_is : given.length ≡ when_done given.answer (file_length (header_in file)) 0
   pub written_is :
       after
-      ≡ whenDone given.answer
+      ≡ when_done given.answer
       (headed (header_for (header_in file)) (written (output_page (places_of (header_in file))) (file_page t file) output))
       output
-  pub used_is : used ≡ whenDone given.answer (cleared (job_scratch t (places_of (header_in file))) scratch) scratch
+  pub used_is : used ≡ when_done given.answer (cleared (job_scratch t (places_of (header_in file))) scratch) scratch

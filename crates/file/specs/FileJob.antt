@@ -3,7 +3,7 @@
 -- "in this order, before 10".
 -- Assumes nothing.
 use Rattle.std.specs.Prelude.{ℕ, List}
-use Rattle.refusal.specs.Answer.{whenDone}
+use Rattle.refusal.specs.Answer.{when_done}
 use Rattle.refusal.specs.Chain.{◌then◌}
 use Rattle.refusal.specs.declared.Answer.{Answer}
 use Rattle.refusal.specs.declared.Answer.TheVariants.{Done}
@@ -42,13 +42,13 @@ unfoldable pub delivery : List ℕ → List ℕ → Lengths → Delivery
 delivery ticket file n =
     record {
       answer = file_answer ticket file n;
-      length = whenDone (file_answer ticket file n) (file_length (header file)) 0;
+      length = when_done (file_answer ticket file n) (file_length (header file)) 0;
     }
 
 -- the output: "nothing is written at a refusal, later output bytes keep their values"
 unfoldable pub file_output_after : List ℕ → List ℕ → List ℕ → List ℕ → List ℕ
 file_output_after ticket file out scratch =
-    whenDone (file_answer ticket file (lengths file out scratch))
+    when_done (file_answer ticket file (lengths file out scratch))
     (headed (header_for (header file))
     (written (output_page (places_of (header file))) (file_page (shown ticket) file) out))
     out
@@ -56,6 +56,6 @@ file_output_after ticket file out scratch =
 -- the scratch
 unfoldable pub file_scratch_after : List ℕ → List ℕ → List ℕ → List ℕ → List ℕ
 file_scratch_after ticket file out scratch =
-    whenDone (file_answer ticket file (lengths file out scratch))
+    when_done (file_answer ticket file (lengths file out scratch))
     (cleared (job_scratch (shown ticket) (places_of (header file))) scratch)
     scratch

@@ -2,4 +2,3 @@ pub mod Places
 pub mod Reading
 pub mod FileJob
 pub mod Delivering
-pub mod Laws

@@ -5,6 +5,8 @@
 //     places   where the page stands in both files
 //     read     a file alone: refusals 15 to 17 and 10
 //     run      the job on a file
+#![tactic(auto)]
+
 mod places;
 pub mod read;
 pub mod run;
@@ -12,7 +14,7 @@ pub mod run;
 use refusal::Answer;
 
 // The answer, and how many bytes were written: the whole file, or 0 at a refusal.
-#[derive(Drop)]
+#[derive(Clone, Copy)]
 pub struct Delivery {
     pub answer: Answer,
     pub length: usize,

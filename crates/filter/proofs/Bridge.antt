@@ -13,7 +13,7 @@ use borrow.Author.Tests.{le-leb, lt-leb}
 use Rattle.geometry.specs.Line.{step_of, major_at}
 use Rattle.geometry.specs.Number.{in_page}
 use Rattle.geometry.specs.Drift.{falls, drift, mirrored}
-use Rattle.geometry.specs.Laws.{inside, lands, out_of_page, not_in_page}
+use Rattle.geometry.proofs.Laws.{inside, lands, out_of_page, not_in_page}
 use Rattle.runs.specs.Span.{best, span}
 use Rattle.runs.specs.Grid.{Page, Sized, start_row, line_name, entry, leave, steps, column_at, along, number, line_steps}
 use Rattle.runs.specs.Grid.{windowed_at}
@@ -22,7 +22,7 @@ use Rattle.runs.specs.declared.Grid.{Grid}
 use Rattle.filter.specs.Seen.{View}
 use Rattle.filter.specs.Filters.{value_at, on_line, in_window, extreme, pass}
 use Rattle.filter.specs.Engine.{neutral, or_neutral, Absent, Bytes, Shows}
-use Rattle.filter.specs.Laws.{extreme_there, own_value, pass_there}
+use Rattle.filter.proofs.Laws.{extreme_there, own_value, pass_there}
 use Rattle.filter.proofs.Neutral.{or_neutral_small, extreme_best, there_is}
 use Rattle.filter.proofs.Extremes.{window_is}
 use Rattle.filter.proofs.Steps.{normal, name_of, place_below, row_of_step, in_page_on, on_in_page, own_on}

@@ -19,13 +19,13 @@ use Rattle.placement.specs.declared.Placement.{Placement}
 use Rattle.turning.specs.Promises.{SameSides, PageIn, compact_pixel}
 use Rattle.tray.specs.Written.{written}
 use Rattle.tray.specs.Laws.{written_same}
-use Rattle.tray.specs.Turned.{across_of, down_of, compact_height, compact_at}
+use Rattle.tray.specs.Turned.{down_of, compact_height, compact_at}
 use Rattle.tray.specs.declared.Layout.{Layout}
 use Rattle.filter.specs.Seen.{View, seen, turned}
 use Rattle.filter.specs.Filters.{operated, filtered, or_white, recipe_boxes, filtered_page}
-use Rattle.filter.specs.Absence.{seen_hidden, seen_shown, absent_turned}
+use Rattle.filter.proofs.Absence.{seen_hidden, seen_shown, absent_turned}
 use Rattle.filter.specs.Work.{work_of}
-use Rattle.filter.specs.Engine.{Absent, Bytes, steep_of, layout_of, grid_of, scratch_place, Held, PassDone, PassReady, Tables}
+use Rattle.filter.specs.Engine.{Bytes, steep_of, layout_of, grid_of, scratch_place, Held, PassDone, PassReady, Tables}
 use Rattle.filter.specs.Engine.{Enters, Ready}
 use Rattle.filter.specs.Promises.{Fits, Filtered}
 use Rattle.filter.specs.declared.Recipe.{Recipe}

@@ -8,7 +8,7 @@ use mir.Val.{to_z, of_z}
 use Rattle.vectors.specs.Vector.{steep}
 use Rattle.geometry.specs.Line.{period}
 use Rattle.geometry.specs.Drift as Drift
-use Rattle.geometry.specs.Laws as Lines
+use Rattle.geometry.proofs.Laws as Lines
 use Rattle.geometry.specs.declared.Line.{Line}
 use Rattle.runs.specs.Grid.{Sized}
 use Rattle.runs.specs.declared.Grid.{Grid}

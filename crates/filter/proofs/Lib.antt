@@ -8,3 +8,6 @@ pub mod Neutral
 pub mod Kept
 pub mod Passing
 pub mod Steps
+pub mod Laws
+pub mod Absence
+pub mod Within

@@ -8,13 +8,13 @@ use native.Mathlib.Nat.{zero-add, mul-le-mul_left, mul-le-mul_right}
 use native.Mathlib.Omega.{arith}
 use lib.Dec.{eqb}
 use borrow.Author.Tests.{eq-eqb, ne_eqb, eqb-false}
-use lib.ListN.{length, get_or}
-use Rattle.geometry.specs.Drift.{falls, mirrored}
+use lib.ListN.{get_or}
+use Rattle.geometry.specs.Drift.{mirrored}
 use Rattle.runs.specs.Grid.{Page, Sized, Tabled, windowed_at}
 use Rattle.runs.specs.Scratch.{size}
 use Rattle.sweep.specs.Sweeps.{RowsHold, Passed}
 use Rattle.runs.specs.declared.Grid.{Grid}
-use Rattle.filter.specs.Absence.{pass_off}
+use Rattle.filter.proofs.Absence.{pass_off}
 use Rattle.filter.specs.declared.Recipe.{Recipe}
 use Rattle.tray.specs.Turned.{across_of, down_of, compact_column, compact_at}
 use Rattle.tray.specs.declared.Layout.{Layout}
@@ -29,7 +29,7 @@ use Rattle.filter.specs.Engine.{passed, pass_cost, grid_of, scratch_place, Held,
 use Rattle.filter.proofs.Bridge.{bridge}
 use Rattle.filter.proofs.Charges.{work}
 use Rattle.filter.proofs.Grids.{grid_sized}
-use Rattle.filter.specs.Laws.{pass_absent}
+use Rattle.filter.proofs.Laws.{pass_absent}
 use Rattle.filter.proofs.Kept.{pass_bytes}
 
 -- ---- columns and rows, and places on the axes

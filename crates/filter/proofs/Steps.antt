@@ -9,7 +9,7 @@ use borrow.Author.Tests.{leb-true, le-leb}
 use Rattle.geometry.specs.Line.{step_of, major_at}
 use Rattle.geometry.specs.Number.{in_page, behind, ahead}
 use Rattle.geometry.specs.Drift.{Inside, falls, mirrored}
-use Rattle.geometry.specs.Laws.{major_is, mirrored_below, inside, inside_in_page, consecutive, behind_low}
+use Rattle.geometry.proofs.Laws.{major_is, mirrored_below, inside, inside_in_page, consecutive, behind_low}
 use Rattle.filter.proofs.Both.{and-true}
 use Rattle.runs.specs.Grid.{Sized, start_row, line_name, entry, leave, steps, row_at, number, line_steps}
 use Rattle.runs.specs.GridLaws as grid

@@ -6,7 +6,7 @@ use Rattle.std.proofs.Common.{sym, ap, ap₂, ◌∙◌, add-zero, suc-add, add-
 use Prim.Native.Nat.{ℕ, zero, suc, ◌+◌, ◌-◌, ◌≤◌, ◌<◌}
 use native.Mathlib.Omega.{arith}
 use Rattle.geometry.specs.Drift.{mirrored}
-use Rattle.geometry.specs.Laws.{mirrored_falling, mirrored_none}
+use Rattle.geometry.proofs.Laws.{mirrored_falling, mirrored_none}
 use Rattle.runs.specs.Scratch.{total}
 
 -- a sum looks only at the numbers between its ends

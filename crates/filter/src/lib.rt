@@ -1,10 +1,13 @@
 // The filters: a page that stands in one lent buffer, filtered along lines into a page that stands in another.
 // The definitions stand in specs/: Seen (a page with absent pixels), Filters (windows, erosion, dilation, opening,
-// closing), Work (comparisons), Laws (what others may use of them), Promises (what the functions here ask and promise).
+// closing), Work (comparisons), Windows (which steps are in a window), Promises (what the functions here ask and
+// promise). Laws, in proofs/, is what others may use of them.
 // They speak of a page as a function of column and row; nobody above knows how the scratch is used.
 //
 //     page     a placed page filtered into a placed page: filter
 //     passes   the four filters, of one pass or two, over the page in the scratch
+#![tactic(auto)]
+
 pub mod page;
 mod passes;
 
@@ -13,7 +16,7 @@ use ticket::HiddenBox;
 
 // What a window is laid along: the line, how many steps a window has, and how many of them lie before the pixel in an
 // erosion.
-#[derive(Drop)]
+#[derive(Clone, Copy)]
 pub struct Segment {
     pub line: Line,
     pub length: usize,
@@ -22,7 +25,7 @@ pub struct Segment {
 
 // What is done to a page: 1 erode, 2 dilate, 3 open, 4 close along a segment, with the pixels under the first count
 // boxes absent, and white in their place on the page that comes out.
-#[derive(Drop)]
+#[derive(Clone, Copy)]
 pub struct Recipe {
     pub operation: usize,
     pub segment: Segment,

@@ -50,7 +50,7 @@ fn filter_in(
 }
 
 // Where a page is filtered from, where to, and how it is laid out on the way.
-#[derive(Drop)]
+#[derive(Clone, Copy)]
 struct Way {
     from: Placement,
     to: Placement,

@@ -10,7 +10,7 @@ use borrow.Author.Tests.{eq-eqb, ne_eqb, eqb-false}
 use lib.Dec.{eqb}
 use lib.ListN.{get_or}
 use Rattle.finding.specs.Row.{absent, first_pass, result_of, through_of, from_of, hit_with, hit_of}
-use Rattle.finding.specs.Laws.{first_at, HasAt, window_has, result_has}
+use Rattle.finding.proofs.Laws.{first_at, HasAt, window_has, result_has}
 use Rattle.finding.specs.declared.Hit.{Hit}
 use Rattle.finding.specs.declared.Search.{Search}
 

@@ -1,3 +1,2 @@
 pub mod Row
 pub mod Promises
-pub mod Laws

@@ -12,7 +12,7 @@ use Rattle.vectors.proofs.Bits.{back, near}
 use Rattle.vectors.proofs.Vectors.{part, of_parts, returned}
 use Rattle.geometry.specs.Drift.{Allowed}
 use Rattle.geometry.specs.Bresenham.{Drawable}
-use Rattle.geometry.specs.Laws.{major_near}
+use Rattle.geometry.proofs.Laws.{major_near}
 use Rattle.geometry.specs.declared.Line.{Line}
 
 module _ (l : Line) (h : Allowed l) where

@@ -3,3 +3,5 @@ mod Pens
 mod Components
 mod Tables
 mod Numbers
+pub mod Laws
+pub mod Worked

@@ -11,10 +11,10 @@ use Rattle.geometry.specs.Line.{period, step_of, major_at}
 use Rattle.geometry.specs.Number.{in_page, behind, ahead}
 use Rattle.geometry.specs.Drift.{Sound, Inside, falls, drift, mirrored, reach}
 use Rattle.geometry.specs.Tables.{OnPage, OnLine, Entries, Walks, LastStep}
-use Rattle.geometry.specs.Laws.Numbering.{untrue}
-use Rattle.geometry.specs.Laws.{drift_low, step_low, drift_rises, mirrored_below, major_at_step, major_beyond}
-use Rattle.geometry.specs.Laws.{period_forward, inside, inside_in_page, behind_reach_of, reach_by, ahead_is}
-use Rattle.geometry.specs.Laws.{major_near}
+use Rattle.geometry.proofs.Laws.Numbering.{untrue}
+use Rattle.geometry.proofs.Laws.{drift_low, step_low, drift_rises, mirrored_below, major_at_step, major_beyond}
+use Rattle.geometry.proofs.Laws.{period_forward, inside, inside_in_page, behind_reach_of, reach_by, ahead_is}
+use Rattle.geometry.proofs.Laws.{major_near}
 use Rattle.geometry.specs.declared.Line.{Line}
 
 -- A pixel at (M, m) of a page with the sides H and W, on a line whose profile is tabled for the whole side. The code

@@ -6,8 +6,8 @@ use native.Mathlib.Nat.{le_of_eq}
 use native.Mathlib.Omega.{arith}
 use Rattle.geometry.specs.Line.{nearest}
 use Rattle.geometry.specs.Bresenham.{Drawable, error, pen_at}
-use Rattle.geometry.specs.Laws.{error_is, error_below, pen_is}
-use Rattle.geometry.specs.Laws.Nearest.{nearest_step}
+use Rattle.geometry.proofs.Laws.{error_is, error_below, pen_is}
+use Rattle.geometry.proofs.Laws.Nearest.{nearest_step}
 use Rattle.geometry.specs.declared.bresenham.Pen.{Pen}
 
 module _ (a b : ℕ) (can : Drawable a b) where

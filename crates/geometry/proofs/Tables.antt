@@ -10,7 +10,7 @@ use borrow.Author.Count.{below_more}
 use lib.ListN.{length, get_or, set}
 use lib.Seq.{get_or-set_same, get_or-set_other}
 use Rattle.geometry.specs.Tables.{FirstEntries, ProfileTable, ReachTable, Reaches}
-use Rattle.geometry.specs.Laws.{reach_is}
+use Rattle.geometry.proofs.Laws.{reach_is}
 use Rattle.geometry.specs.declared.Line.{Line}
 
 -- one more entry is right: what P says of each place and its entry

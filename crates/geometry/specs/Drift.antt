@@ -1,5 +1,5 @@
 -- Document 01, 'Lines', as the layers above read it: which way a line drifts, how far it has drifted at each step, and
--- the page in normal form, where every line drifts to larger places. The laws of these numbers stand in Laws.
+-- the page in normal form, where every line drifts to larger places. The laws of these numbers stand in proofs/.
 -- Assumes nothing.
 use Rattle.std.specs.Prelude.{ℕ, zero, suc, ◌+◌, ◌-◌, ◌≤◌, ◌<◌, Bool, true, false, not, cond, ◌≡◌, leb, ℤ, pos, neg_ℤ, nat_abs}
 use Rattle.std.proofs.Math.Option.{some}

@@ -24,7 +24,7 @@ ghost use Rattle.std.specs.Prelude.{◌≡◌, ◌+◌, ◌≤◌, ◌<◌, leng
 ghost use Rattle.geometry.specs.Bresenham.{Drawable, Shifts, pen_at};
 
 // The plotter's pen: the column and the row that it has come to, and the error that it has gathered there.
-#[derive(Drop)]
+#[derive(Clone, Copy)]
 struct Pen {
     column: usize,
     row: usize,

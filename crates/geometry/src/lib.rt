@@ -1,7 +1,8 @@
 // Lines across a page: where each step lands, and which number a pixel has on its line. Which way a line runs,
 // `vectors` says; how a connected one is drawn, `bresenham`. The definitions stand in specs/: Line (D, phases, steps),
 // Number (behind, ahead), Drift (the profile's size, the normal form, reach), Flip (the line of a flipped page),
-// Bresenham (the running error). Laws has all that a layer above may use.
+// Bresenham (the running error). Laws, in proofs/, has all that a layer above may use.
+#![tactic(auto)]
 
 mod bresenham;
 pub mod entry;
@@ -10,7 +11,7 @@ pub mod number;
 pub mod profile;
 
 // A line as a ticket orders it: connected or periodic, along the vector (dx, dy), with a phase.
-#[derive(Drop)]
+#[derive(Clone, Copy)]
 pub struct Line {
     pub periodic: bool,
     pub dx: i32,

@@ -1,5 +1,7 @@
 // Hidden pixels on the compact page: each box of a lent list is painted over it.
 // Document 01: "The hidden boxes are handed on as one lent list of boxes."
+#![tactic(auto)]
+
 ghost use Rattle.std.specs.Prelude.{◌≡◌, true, ◌∷◌, [], ◌≤◌, length, take};
 ghost use Rattle.tray.specs.Turned.{boxed};
 ghost use Rattle.boxes.specs.Boxes.{box_allowed};

@@ -4,7 +4,7 @@ use mir.Syntax.{w32}
 use mir.Val.{to_z, of_z}
 use lib.Dec.{eqb}
 use lib.IntN.{ℤ}
-use Rattle.geometry.specs.Laws as Lines
+use Rattle.geometry.proofs.Laws as Lines
 use Rattle.geometry.specs.declared.Line.{Line}
 use Rattle.ticket.specs.Judging.{is_periodic}
 use Rattle.ticket.specs.Laws.{Allowed}

@@ -9,8 +9,8 @@ use native.Mathlib.Decide.{dec_lt}
 use native.Mathlib.Omega.{arith}
 use lib.ListN.{length, get_or}
 use lib.Seq.{ext_get_or}
-use Rattle.refusal.specs.Answer.{is_done, whenDone}
-use Rattle.refusal.specs.Chain.{◌then◌, then_on, then_stop, when-refused}
+use Rattle.refusal.specs.Answer.{is_done, when_done}
+use Rattle.refusal.specs.Chain.{then_on, then_stop, when_refused}
 use Rattle.refusal.specs.declared.Answer.{Answer}
 use Rattle.refusal.specs.declared.Answer.TheVariants.{Done}
 use Rattle.ticket.specs.Judging.{judged}
@@ -21,8 +21,7 @@ use Rattle.ticket.specs.declared.Ticket.{Ticket}
 use Rattle.boxes.specs.Boxes.{boxes_of}
 use Rattle.hiding.specs.Hiding.{BoxesLie}
 use Rattle.placement.specs.Placement.{source_page, output_page, scratch_needed}
-use Rattle.placement.specs.Laws as placement
-use Rattle.placement.specs.Laws.{scratch_pages}
+use Rattle.placement.proofs.Laws.{scratch_pages}
 use Rattle.placement.specs.declared.Placement.{Placement}
 use Rattle.placement.specs.declared.Placements.{Placements}
 use Rattle.tray.specs.Laws.{length_cleared, cleared_below, cleared_above}
@@ -174,14 +173,14 @@ module _ (t : Ticket) (white : ℕ) (p : Placements) (source output scratch : Li
   ran_refused given is e =
       record {
         answered = is ∙ sym (then_stop _ _ (ap is_done (sym is) ∙ e));
-        written_is = sym (when-refused given _ output e);
-        used_is = sym (when-refused given _ scratch e);
+        written_is = sym (when_refused given _ output e);
+        used_is = sym (when_refused given _ scratch e);
       }
 
   pub ran_done :
       (given : Answer) → given ≡ judge_places t p (lengths source output scratch) → is_done given ≡ true → (after used : List ℕ) (work : ℕ)
       → Finished t white p source output scratch after used work → RanRead t white p source output scratch after used (Done work)
-  unfolding whenDone
+  unfolding when_done
   ran_done given is e after used work done =
       record {
         answered = ap Done done.work_is ∙ sym (then_on _ _ (ap is_done (sym is) ∙ e));
@@ -204,7 +203,7 @@ module _ (ticket : List ℕ) (p : Placements) (source output scratch : List ℕ)
   job_refused e =
       let same = answered e in
       let refused = ap is_done (sym same) ∙ e in
-      (same, (sym (when-refused _ _ output refused), sym (when-refused _ _ scratch refused)))
+      (same, (sym (when_refused _ _ output refused), sym (when_refused _ _ scratch refused)))
     where
       answered : is_done r.answer ≡ false → r.answer ≡ answer ticket p (lengths source output scratch)
       answered e = read_answer ∙ sym (then_stop (judged ticket) _ (ap is_done (sym read_answer) ∙ e))
@@ -228,9 +227,9 @@ module _ (ticket : List ℕ) (p : Placements) (source output scratch : List ℕ)
           (
             mine.written_is
                 ∙ ap
-                (λ (a : Answer). whenDone a (written (output_page p) (finished (shown ticket) (source_page p) source) output) output)
+                (λ (a : Answer). when_done a (written (output_page p) (finished (shown ticket) (source_page p) source) output) output)
                 same,
-            mine.used_is ∙ ap (λ (a : Answer). whenDone a (cleared (job_scratch (shown ticket) p) scratch) scratch) same,
+            mine.used_is ∙ ap (λ (a : Answer). when_done a (cleared (job_scratch (shown ticket) p) scratch) scratch) same,
           ),
         )
       where

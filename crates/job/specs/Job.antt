@@ -2,7 +2,7 @@
 -- nothing else: "Refusals, places and work: ticket bytes, placements and the three lengths only."
 -- Assumes nothing.
 use Rattle.std.specs.Prelude.{ℕ, List, length}
-use Rattle.refusal.specs.Answer.{whenDone}
+use Rattle.refusal.specs.Answer.{when_done}
 use Rattle.refusal.specs.Chain.{◌then◌}
 use Rattle.refusal.specs.declared.Answer.{Answer}
 use Rattle.refusal.specs.declared.Answer.TheVariants.{Done}
@@ -43,11 +43,11 @@ lengths source output scratch = record { source = length source; output = length
 -- the output tray: "A refused job writes nothing. A finished one writes only its page"
 unfoldable pub output_after : List ℕ → Placements → List ℕ → List ℕ → List ℕ → List ℕ
 output_after ticket p source out scratch =
-    whenDone (answer ticket p (lengths source out scratch))
+    when_done (answer ticket p (lengths source out scratch))
     (written (output_page p) (finished (shown ticket) (source_page p) source) out)
     out
 
 -- the scratch: "they hold zero at the end of a finished job. Later scratch bytes keep their values."
 unfoldable pub scratch_after : List ℕ → Placements → List ℕ → List ℕ → List ℕ → List ℕ
 scratch_after ticket p source out scratch =
-    whenDone (answer ticket p (lengths source out scratch)) (cleared (job_scratch (shown ticket) p) scratch) scratch
+    when_done (answer ticket p (lengths source out scratch)) (cleared (job_scratch (shown ticket) p) scratch) scratch

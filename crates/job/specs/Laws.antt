@@ -7,9 +7,9 @@ use Rattle.std.proofs.Math.Decide.{dec_le}
 use Rattle.vectors.specs.Vector.{major_of}
 use Rattle.geometry.specs.Drift as lines
 use Rattle.geometry.specs.Drift.{Sound}
-use Rattle.geometry.specs.Laws.{sound, allowed, phase_allowed_lem}
+use Rattle.geometry.proofs.Laws.{sound, allowed, phase_allowed_lem}
 use Rattle.refusal.specs.Answer.{is_done}
-use Rattle.refusal.specs.Chain.{◌then◌, then_work, done_work, when-done}
+use Rattle.refusal.specs.Chain.{◌then◌, then_work, done_work, when_done_lem}
 use Rattle.refusal.specs.declared.Answer.{Answer}
 use Rattle.refusal.specs.declared.Answer.TheVariants.{Done}
 use Rattle.ticket.specs.Judging.{judged}
@@ -18,7 +18,7 @@ use Rattle.ticket.specs.Reading.{shown}
 use Rattle.ticket.specs.declared.Ticket.{Ticket}
 use Rattle.boxes.specs.Boxes.{boxes_of}
 use Rattle.placement.specs.Placement.{byte_of, pixel_in, source_page, output_page}
-use Rattle.placement.specs.Laws as placement
+use Rattle.placement.proofs.Laws as placement
 use Rattle.placement.specs.declared.Placement.{Placement}
 use Rattle.placement.specs.declared.Placements.{Placements}
 use Rattle.tray.specs.Laws as tray
@@ -99,6 +99,6 @@ output_pixel ticket p source out scratch work done c r c_in r_in =
     let to = (finished_stands ticket p (lengths source out scratch) work done).to in
     let page = finished (shown ticket) (source_page p) source in
     ap (λ (tray : List ℕ). get_or tray (byte_of (output_page p) c r) 0)
-    (when-done (answer ticket p (lengths source out scratch)) (written (output_page p) page out) out (ap is_done done))
+    (when_done_lem (answer ticket p (lengths source out scratch)) (written (output_page p) page out) out (ap is_done done))
     ∙ tray.written_pixel (output_page p) page out c r (omega (arith, to.stride_least)) c_in r_in
     (placement.byte_below (output_page p) (length out) c r to c_in r_in)

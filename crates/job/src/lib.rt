@@ -4,5 +4,7 @@
 //
 //     job      the job, with no condition on its callers: run
 //     order    what a ticket orders of the filter
+#![tactic(auto)]
+
 pub mod job;
 pub mod order;

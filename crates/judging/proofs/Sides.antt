@@ -8,7 +8,7 @@ use Rattle.refusal.specs.Chain.{unless_done}
 use Rattle.refusal.specs.declared.Refusal.TheVariants.{BadSides}
 use Rattle.ticket.specs.declared.Ticket.{Ticket}
 use Rattle.placement.specs.Placement.{allowed, source_page, output_page}
-use Rattle.placement.specs.Laws as placement
+use Rattle.placement.proofs.Laws as placement
 use Rattle.placement.specs.declared.Placements.{Placements}
 use Rattle.judging.specs.Pages.{pages_of}
 use Rattle.judging.specs.Judging.{judge_sides}

@@ -13,7 +13,7 @@ use Rattle.ticket.specs.declared.HiddenBox.{HiddenBox}
 use Rattle.ticket.specs.declared.Ticket.{Ticket}
 use Rattle.boxes.specs.Boxes.{boxes_of, box_allowed}
 use Rattle.placement.specs.Placement.{allowed, fits, Placed, source_page, output_page, scratch_needed}
-use Rattle.placement.specs.Laws as placement
+use Rattle.placement.proofs.Laws as placement
 use Rattle.placement.specs.declared.Placements.{Placements}
 use Rattle.judging.specs.Pages.{pages_of, job_scratch}
 use Rattle.judging.specs.Judging.{judge_sides, judge_source, judge_output, judge_scratch, judge_page_boxes_from}

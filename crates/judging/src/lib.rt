@@ -4,11 +4,13 @@
 //
 //     judge    refusals 10 to 14, each a test of its own
 //     pages    what a job keeps in the scratch
+#![tactic(auto)]
+
 pub mod judge;
 pub mod pages;
 
 // The lengths of the three buffers that a job is lent.
-#[derive(Drop)]
+#[derive(Clone, Copy)]
 pub struct Lengths {
     pub source: usize,
     pub output: usize,

@@ -3,13 +3,15 @@
 //
 //     list      a job of the list as its numbers say, and its ticket
 //     answers   the numbers that come back
+#![tactic(auto)]
+
 pub mod answers;
 pub mod list;
 
 use placement::Placements;
 
 // A job of a list: where its ticket stands in the buffer of tickets, and where its pages stand.
-#[derive(Drop)]
+#[derive(Clone, Copy)]
 pub struct Listed {
     pub start: usize,
     pub length: usize,

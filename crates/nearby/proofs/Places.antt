@@ -13,9 +13,9 @@ use lib.ListN.{length, get_or}
 use Rattle.geometry.specs.Line.{period, step_of, major_at}
 use Rattle.geometry.specs.Number.{in_page}
 use Rattle.geometry.specs.Drift.{Allowed, Inside, Sound, drift, falls, mirrored}
-use Rattle.geometry.specs.Laws.{drift_bound, inside, inside_in_page, lands, major_beyond, major_is, major_near}
-use Rattle.geometry.specs.Laws.{mirrored_below, mirrored_twice, not_in_page, out_of_page, period_connected}
-use Rattle.geometry.specs.Laws.{period_forward, period_periodic, step_low}
+use Rattle.geometry.proofs.Laws.{drift_bound, inside, inside_in_page, lands, major_beyond, major_is, major_near}
+use Rattle.geometry.proofs.Laws.{mirrored_below, mirrored_twice, not_in_page, out_of_page, period_connected}
+use Rattle.geometry.proofs.Laws.{period_forward, period_periodic, step_low}
 use Rattle.geometry.specs.declared.Line.{Line}
 use Rattle.nearby.specs.Stand.{step_in, major_in, landed, minor_in}
 use Rattle.nearby.specs.Promises.{Stands, Tabled}

@@ -21,7 +21,7 @@ use Rattle.filter.specs.Seen.{View, seen, turned, runs_steep}
 use Rattle.filter.specs.Axes.{turned_is}
 use Rattle.filter.specs.Filters.{value_at, on_line, in_window}
 use Rattle.filter.specs.Engine.{Absent}
-use Rattle.filter.specs.Absence.{absent_turned}
+use Rattle.filter.proofs.Absence.{absent_turned}
 use Rattle.nearby.specs.Stand.{standing_of, step_in, on_side, major_in, landed, minor_in, pixel_by, pixel_in, near_at}
 use Rattle.nearby.specs.Promises.{Stands, OfPage}
 use Rattle.nearby.specs.declared.Pixel.{Pixel}

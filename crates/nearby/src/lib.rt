@@ -7,6 +7,8 @@
 //     stand    a pixel, its line and its page, by the axes
 //     place    which pixel stands at a place of the row
 //     row      the values of the row
+#![tactic(auto)]
+
 pub mod place;
 pub mod row;
 pub mod stand;
@@ -14,7 +16,7 @@ pub mod stand;
 use geometry::Line;
 
 // A pixel of a page, by its column and row.
-#[derive(Drop)]
+#[derive(Clone, Copy)]
 pub struct Pixel {
     pub column: usize,
     pub row: usize,
@@ -22,7 +24,7 @@ pub struct Pixel {
 
 // A pixel and its line: the page is `high` places long on the axis along which the line runs and `wide` on the other,
 // the pixel is at `major` of the one and `minor` of the other, and its row begins `reach` steps before it.
-#[derive(Drop)]
+#[derive(Clone, Copy)]
 pub struct Standing {
     pub line: Line,
     pub steep: bool,

@@ -8,7 +8,7 @@ use mathlib.Core.List.{List, [], ◌∷◌}
 use lib.ListN.{length}
 use lib.Dec.{leb, eqb}
 use Rattle.refusal.specs.Answer.{is_done}
-use Rattle.refusal.specs.Chain.{unless, ◌then◌, then_stop, then_done, unless_done, when-refused}
+use Rattle.refusal.specs.Chain.{unless, ◌then◌, then_stop, then_done, unless_done, when_refused}
 use Rattle.refusal.specs.declared.Answer.{Answer}
 use Rattle.refusal.specs.declared.Later.TheVariants.{BadHeader, BadMaximum}
 use Rattle.refusal.specs.declared.Refusal.TheVariants.{Later}
@@ -139,7 +139,7 @@ module _ (file : List ℕ) (k : ℕ) (from : bytes_from file k ≡ bytes_from fi
 
 same_shown : (a : Answer) (header other : Header) → is_done a ≡ false → shown_at a header ≡ shown_at a other
 unfolding shown_at
-same_shown a header other h = rw (when-refused a header no_header h, when-refused a other no_header h)
+same_shown a header other h = rw (when_refused a header no_header h, when_refused a other no_header h)
 
 -- a file that begins with `P5` has two bytes
 pub magic_long : (file : List ℕ) → is_done (judge_magic file) ≡ true → 2 ≤ length file

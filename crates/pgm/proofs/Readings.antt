@@ -5,7 +5,7 @@ use mathlib.Core.Bool.{true, false}
 use mathlib.Core.List.{List}
 use lib.ListN.{length}
 use Rattle.refusal.specs.Answer.{is_done}
-use Rattle.refusal.specs.Chain.{◌then◌, then_on, then_stop, then_done, when-done}
+use Rattle.refusal.specs.Chain.{◌then◌, then_on, then_stop, then_done, when_done_lem}
 use Rattle.refusal.specs.declared.Answer.{Answer}
 use Rattle.refusal.specs.declared.Answer.TheVariants.{Done, Refused}
 use Rattle.pgm.specs.Header.{judge_header, judge_maximum}
@@ -39,7 +39,7 @@ module _ (file : List ℕ) {r : Reading} (e : r ≡ shown_at (judge_header file 
   module _ (done : is_done r.answer ≡ true) where
     pub header_shown_lem : r.header ≡ header_in file
     unfolding shown_at
-    header_shown_lem = rw e (when-done _ (header_in file) no_header (rw header_answer at done))
+    header_shown_lem = rw e (when_done_lem _ (header_in file) no_header (rw header_answer at done))
 
     pub start_within : r.header.start ≤ length file
     unfolding header_in

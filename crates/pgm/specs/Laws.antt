@@ -5,7 +5,7 @@ use Rattle.std.specs.Prelude.{◌≡◌, refl, ℕ, zero, suc, ◌+◌, ◌-◌,
 use Rattle.std.proofs.Common.{arith, leb-true, eqb-true, length-take, length-drop, get_or-take, get_or-drop}
 use Rattle.std.proofs.lemmas.Bool.{false≢true}
 use Rattle.refusal.specs.Answer.{is_done}
-use Rattle.refusal.specs.Chain.{unless, then_done, unless_done, when-done}
+use Rattle.refusal.specs.Chain.{unless, then_done, unless_done, when_done_lem}
 use Rattle.refusal.specs.declared.Later.TheVariants.{BadHeader, BadPixel}
 use Rattle.refusal.specs.declared.Refusal.TheVariants.{Later}
 use Rattle.pgm.specs.Bytes.{Byte, is_space, is_digit, is_hash, is_line_end, uncommented, bytes_from, first_place}
@@ -139,7 +139,7 @@ read_good file good =
           λ i h.
           let sound = sound_below (maximum_in file) image i (omega arith) in
           rw (get_or-take n (drop (pixels_start file) file) i 0 h, get_or-drop (pixels_start file) file i 0) at sound;
-      header = when-done (judged file) (header_in file) no_header good;
+      header = when_done_lem (judged file) (header_in file) no_header good;
     }
 
 -- a side that is told within its limits is the side

@@ -8,7 +8,7 @@ use mathlib.Core.List.{List, [], ◌∷◌, ◌++◌, append_assoc}
 use borrow.Author.Tests.{le-leb, lt-leb, ne_eqb, eq-eqb}
 use Rattle.std.proofs.Math.ListN.{take}
 use Rattle.std.proofs.Math.Seq.{take_at}
-use Rattle.refusal.specs.Answer.{whenDone}
+use Rattle.refusal.specs.Answer.{when_done}
 use Rattle.refusal.specs.Chain.{unless, ◌then◌}
 use Rattle.refusal.specs.declared.Answer.TheVariants.{Done}
 use Rattle.heading.specs.Decimal.{decimal_small, decimal_more, by_digits, length_header}
@@ -235,7 +235,7 @@ pub read_back : (width height maximum : ℕ) (pixels rest : List ℕ) → 1 ≤ 
     → length pixels ≡ width * height
     → ((i : ℕ) → i < length pixels → get_or pixels i 0 ≤ maximum)
     → ReadsBack width height maximum pixels (file_of width height maximum pixels ++ rest)
-unfolding file_of header_in reading shown_at whenDone
+unfolding file_of header_in reading shown_at when_done
 read_back w h m pixels rest least most count sound =
     let body = pixels ++ rest in
     let done = judged_back w h m pixels rest count least most sound in

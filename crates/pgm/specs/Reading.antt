@@ -2,7 +2,7 @@
 -- this order", "Only a file's first image is read."
 -- Assumes nothing.
 use Rattle.std.specs.Prelude.{ℕ, suc, ◌+◌, ◌*◌, min, cond, List, [], ◌∷◌, take, drop, leb, eqb}
-use Rattle.refusal.specs.Answer.{whenDone}
+use Rattle.refusal.specs.Answer.{when_done}
 use Rattle.refusal.specs.Chain.{unless, ◌then◌}
 use Rattle.refusal.specs.declared.Answer.{Answer}
 use Rattle.refusal.specs.declared.Later.TheVariants.{BadPixel}
@@ -54,7 +54,7 @@ no_header = record { width = 0; height = 0; maximum = 0; start = 0 }
 
 -- an answer with the header, or with zeros in it at a refusal
 unfoldable pub shown_at : Answer → Header → Reading
-shown_at answer header = record { answer = answer; header = whenDone answer header no_header }
+shown_at answer header = record { answer = answer; header = when_done answer header no_header }
 
 unfoldable pub reading : List ℕ → Reading
 reading file = shown_at (judged file) (header_in file)

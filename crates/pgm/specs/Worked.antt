@@ -4,7 +4,7 @@ use Rattle.std.specs.Prelude.{◌≡◌, refl, ℕ, List, [], ◌∷◌, map}
 use Prim.Native.Char.{code}
 use Prim.Native.String.{String, [] as []ˢ, ◌∷◌ as ◌∷ˢ◌}
 use Rattle.refusal.specs.Chain.{unless, ◌then◌}
-use Rattle.refusal.specs.Answer.{whenDone}
+use Rattle.refusal.specs.Answer.{when_done}
 use Rattle.refusal.specs.declared.Answer.{Answer}
 use Rattle.refusal.specs.declared.Answer.TheVariants.{Done, Refused}
 use Rattle.refusal.specs.declared.Later.TheVariants.{BadHeader, BadMaximum, BadPixel}
@@ -94,5 +94,5 @@ unfolding is_space is_digit is_hash is_line_end uncommented bytes_from first_pla
     behind_number judge_number from_width from_height from_maximum from_delimiter width_in height_in maximum_in maximum_place
     pixels_start judge_magic judge_from_maximum judge_header judge_maximum
     sound_pixels image_pixels judge_pixels judged unless ◌then◌
-    told header_in no_header shown_at reading decimal_in decimal line header_of file_of whenDone
+    told header_in no_header shown_at reading decimal_in decimal line header_of file_of when_done
 one_row = refl

@@ -12,7 +12,7 @@ use refusal::chain::{first_refusal, refuse_unless};
 use refusal::{Answer, Later, Refusal, report};
 
 // A number behind white space: what is judged of it, the number as it is told, its first digit, and the place behind.
-#[derive(Drop)]
+#[derive(Clone, Copy)]
 struct Field {
     answer: Answer,
     number: usize,
@@ -21,7 +21,7 @@ struct Field {
 }
 
 // The three numbers, and the place of the byte that delimits the pixels.
-#[derive(Drop)]
+#[derive(Clone, Copy)]
 struct Fields {
     answer: Answer,
     width: usize,

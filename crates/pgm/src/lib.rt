@@ -6,6 +6,8 @@
 //     scan     bytes outside comments, runs of white space and digits, numbers
 //     fields   the header, refusals 15 and 16
 //     pixels   refusal 17
+#![tactic(auto)]
+
 mod fields;
 mod pixels;
 mod scan;
@@ -16,7 +18,7 @@ ghost use Rattle.pgm.specs.Reading.{no_header, shown_at, reading};
 use refusal::{Answer, report};
 
 // What is told of an image: its sides, its maximum, and the place of its first pixel.
-#[derive(Drop)]
+#[derive(Clone, Copy)]
 pub struct Header {
     pub width: usize,
     pub height: usize,
@@ -25,7 +27,7 @@ pub struct Header {
 }
 
 // The answer, and the header; zeros in it at a refusal.
-#[derive(Drop)]
+#[derive(Clone, Copy)]
 pub struct Reading {
     pub answer: Answer,
     pub header: Header,

@@ -1,1 +1,3 @@
 mod Decisions
+pub mod Laws
+pub mod Worked

@@ -1,3 +1,1 @@
 pub mod Placement
-pub mod Laws
-pub mod Worked

@@ -2,4 +2,6 @@
 // lent a page; `runs` says what a plan is, and carries it out.
 //
 // The definitions stand in specs/: Plans (the plans of the three sweeps).
+#![tactic(auto)]
+
 pub mod plans; // plans.rt: what is written, what is read, where blocks begin

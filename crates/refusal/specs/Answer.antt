@@ -25,6 +25,6 @@ is_done (Done work) = true
 is_done (Refused refusal at) = false
 
 -- one thing for what is done and another for a refusal
-unfoldable pub whenDone {ℓ} : {X : Type ℓ} → Answer → X → X → X
-whenDone (Done work) done kept = done
-whenDone (Refused refusal at) done kept = kept
+unfoldable pub when_done {ℓ} : {X : Type ℓ} → Answer → X → X → X
+when_done (Done work) done kept = done
+when_done (Refused refusal at) done kept = kept

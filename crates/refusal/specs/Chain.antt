@@ -4,7 +4,7 @@
 use Rattle.std.specs.Prelude.{◌≡◌, refl, ℕ, Bool, true, false}
 use Rattle.std.proofs.Common.{ap, true≢false}
 use Rattle.std.proofs.lemmas.Bool.{false≢true}
-use Rattle.refusal.specs.Answer.{is_done, whenDone}
+use Rattle.refusal.specs.Answer.{is_done, when_done}
 use Rattle.refusal.specs.declared.Answer.{Answer}
 use Rattle.refusal.specs.declared.Answer.TheVariants.{Done, Refused}
 use Rattle.refusal.specs.declared.Refusal.{Refusal}
@@ -58,12 +58,12 @@ unfolding is_done
 refused_not_done h = false≢true (ap is_done h)
 
 -- what is chosen by an answer, once it is known whether it is done
-pub when-done {ℓ} : {X : Type ℓ} (a : Answer) (done kept : X) → is_done a ≡ true → whenDone a done kept ≡ done
-unfolding is_done whenDone
-when-done (Done work) done kept h = refl
-when-done (Refused refusal at) done kept h = absurd (false≢true h)
+pub when_done_lem {ℓ} : {X : Type ℓ} (a : Answer) (done kept : X) → is_done a ≡ true → when_done a done kept ≡ done
+unfolding is_done when_done
+when_done_lem (Done work) done kept h = refl
+when_done_lem (Refused refusal at) done kept h = absurd (false≢true h)
 
-pub when-refused {ℓ} : {X : Type ℓ} (a : Answer) (done kept : X) → is_done a ≡ false → whenDone a done kept ≡ kept
-unfolding is_done whenDone
-when-refused (Done work) done kept h = absurd (true≢false h)
-when-refused (Refused refusal at) done kept h = refl
+pub when_refused {ℓ} : {X : Type ℓ} (a : Answer) (done kept : X) → is_done a ≡ false → when_done a done kept ≡ kept
+unfolding is_done when_done
+when_refused (Done work) done kept h = absurd (true≢false h)
+when_refused (Refused refusal at) done kept h = refl

@@ -2,11 +2,13 @@
 // `requires`. The definitions stand in specs/: Refusal (the numbers), Answer (number, place and work), Chain
 // (judgements one after the other, and their laws). A further refusal is one case here and one number in `report` and
 // specs/Refusal.
+#![tactic(auto)]
+
 pub mod chain; // chain.rt: judgements one after the other
 pub mod report; // report.rt: an answer as numbers
 
 // Why nothing is done: the refusals 1 to 14 of document 01, in this order, and those that came later.
-#[derive(Drop)]
+#[derive(Clone, Copy)]
 pub enum Refusal {
     TicketEnds, // ticket ends in a field, or before one of tags 1 to 6
     WrongTag, // a tag other than the one due
@@ -27,7 +29,7 @@ pub enum Refusal {
 
 // The refusals that document 02 adds, from 15 on, and ours. An enum of their own, as the prover walks enums of sixteen
 // cases by itself and not of more.
-#[derive(Drop)]
+#[derive(Clone, Copy)]
 pub enum Later {
     BadHeader, // bad header, or maximum 0
     BadMaximum, // maximum above 255
@@ -39,7 +41,7 @@ pub enum Later {
 
 // Done, with the work; or refused, with the place: the head of a field, a byte of a file, a box's number, the numbers
 // needed, or 0.
-#[derive(Drop)]
+#[derive(Clone, Copy)]
 pub enum Answer {
     Done(u64),
     Refused(Refusal, usize),

@@ -6,7 +6,7 @@ use native.Mathlib.Nat.{mul-le-mul_left, mul-le-mul_right, mul-one, suc-mul, le_
 use native.Mathlib.Omega.{arith}
 use Rattle.geometry.specs.Line.{period}
 use Rattle.geometry.specs.Drift.{drift, reach}
-use Rattle.geometry.specs.Laws.{period_forward, step_split, drift_bound, reach_by}
+use Rattle.geometry.proofs.Laws.{period_forward, step_split, drift_bound, reach_by}
 use mathlib.Core.List.{List}
 use lib.ListN.{get_or}
 use Rattle.runs.specs.Grid.{Sized, Pixel, start_row, line_name, entry}

@@ -4,3 +4,4 @@ pub mod Running
 pub mod Spots
 pub mod Totals
 pub mod Walking
+pub mod BlockLaws

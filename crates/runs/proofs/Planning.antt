@@ -7,7 +7,7 @@ use native.Mathlib.Omega.{arith}
 use lib.ListN.{get_or}
 use Rattle.geometry.specs.Line.{period}
 use Rattle.geometry.specs.Drift.{drift}
-use Rattle.geometry.specs.Laws.{period_forward, drift_rises, drift_bound}
+use Rattle.geometry.proofs.Laws.{period_forward, drift_rises, drift_bound}
 use Rattle.runs.specs.Grid.{Pixel, start_row, line_name}
 use Rattle.runs.specs.Runs.{Row, FarEdge, place_on}
 use Rattle.runs.specs.declared.Grid.{Grid}

@@ -7,7 +7,7 @@ use native.Mathlib.Omega.{arith}
 use lib.ListN.{get_or}
 use Rattle.geometry.specs.Line.{period}
 use Rattle.geometry.specs.Drift.{drift}
-use Rattle.geometry.specs.Laws.{period_forward, drift_bound}
+use Rattle.geometry.proofs.Laws.{period_forward, drift_bound}
 use Rattle.runs.specs.Grid.{Pixel, start_row, line_name, row_at, column_at, spot}
 use Rattle.runs.specs.GridLaws.{StepOnPage, spot_off, spot_on, start_small}
 use Rattle.runs.specs.declared.Grid.{Grid}

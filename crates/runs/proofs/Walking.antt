@@ -12,7 +12,7 @@ use lib.Dec.{eqb}
 use lib.ListN.{get_or}
 use borrow.Author.Tests.{eq-eqb, ne_eqb}
 use Rattle.geometry.specs.Drift.{drift, reach}
-use Rattle.geometry.specs.Laws.{drift_rises}
+use Rattle.geometry.proofs.Laws.{drift_rises}
 use Rattle.runs.specs.Grid.{line_name, entry}
 use Rattle.runs.specs.GridLaws.{entry_at_lem, entry_by}
 use Rattle.runs.specs.Scratch.{total}

@@ -3,10 +3,9 @@
 -- named by these two numbers, and what is said of a pixel is said of its line and its step. A line's pixels are its
 -- steps from its entry up to where it leaves.
 -- Assumes nothing.
-use Rattle.std.specs.Prelude.{ℕ, suc, ◌+◌, ◌-◌, ◌*◌, ◌%◌, ◌≤◌, ◌<◌, Bool, ◌&&◌, ◌||◌, cond, ◌≡◌, List, length, get_or, leb, ltb}
+use Rattle.std.specs.Prelude.{ℕ, suc, ◌+◌, ◌-◌, ◌*◌, ◌%◌, ◌≤◌, ◌<◌, ◌&&◌, ◌||◌, cond, ◌≡◌, List, length, get_or, leb, ltb}
 use Rattle.geometry.specs.Line.{period, step_of}
 use Rattle.geometry.specs.Drift.{Sound, drift, reach, first}
-use Rattle.geometry.specs.declared.Line.{Line}
 use Rattle.runs.specs.Block.{from_start, to_end, windowed, rightward, leftward, resulting}
 use Rattle.runs.specs.declared.Grid.{Grid}
 

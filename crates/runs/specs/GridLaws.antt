@@ -14,7 +14,7 @@ use Rattle.std.proofs.Math.Dec.{leb}
 use borrow.Author.Tests.{leb-true, leb-false, le-leb, lt-leb, lt-ltb, le-ltb}
 use Rattle.geometry.specs.Line.{period, step_of}
 use Rattle.geometry.specs.Drift.{drift, reach, first}
-use Rattle.geometry.specs.Laws.{period_forward, step_at_lem, step_split, drift_rises, first_is, reach_at, reach_by}
+use Rattle.geometry.proofs.Laws.{period_forward, step_at_lem, step_split, drift_rises, first_is, reach_at, reach_by}
 use Rattle.runs.specs.Grid.{Page, start_row, line_name, entry, leave, steps, row_at, column_at, along, number, line_steps, from_start_at, to_end_at, spot, Sized}
 use Rattle.runs.specs.Block.{from_start, to_end}
 use Rattle.runs.specs.declared.Grid.{Grid}

@@ -1,6 +1,5 @@
 pub mod Span
 pub mod Block
-pub mod BlockLaws
 pub mod Grid
 pub mod GridLaws
 pub mod Scratch

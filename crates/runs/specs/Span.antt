@@ -1,6 +1,6 @@
 -- The lowest, or highest, of the values between two steps of a line: one notion for minimum and maximum.
 -- Assumes nothing.
-use Rattle.std.specs.Prelude.{◌≡◌, refl, Bool, true, false, ℕ, zero, suc, ◌+◌, ◌-◌, ◌≤◌, ◌<◌, min, max}
+use Rattle.std.specs.Prelude.{◌≡◌, Bool, true, false, ℕ, zero, suc, ◌+◌, ◌-◌, ◌≤◌, ◌<◌, min, max}
 use Rattle.std.proofs.Common.{sym, ap, ◌∙◌, zero-add, suc-add, add-suc, add-zero, arith}
 use Rattle.std.proofs.Math.Nat.{sub_self}
 

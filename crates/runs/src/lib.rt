@@ -4,13 +4,15 @@
 //
 // The definitions stand in specs/: Span (the extreme between two steps), Block (van Herk's scheme along one line,
 // and its cost), Grid (lines of a page in normal form), Scratch (the two pages, and what is kept of them), Runs
-// (runs, marks, and a plan carried out); BlockLaws and GridLaws are what follows from them. The plans of the sweeps
-// are made in `planning`.
+// (runs, marks, and a plan carried out); GridLaws, and BlockLaws in proofs/, are what follows from them. The
+// plans of the sweeps are made in `planning`.
 //
 //     walk    a plan carried out
 //     marks   where the lines of side columns are in their blocks
 //     run     runs of neighbouring bytes: copied, or compared and counted
 //     step    where the steps of a pixel's line stand
+#![tactic(auto)]
+
 use geometry::Line;
 
 pub mod marks;
@@ -20,7 +22,7 @@ pub mod walk;
 
 // The page's sides, its line, and the window: how far it reaches back and on from a pixel, and its length, back + 1
 // + on.
-#[derive(Drop)]
+#[derive(Clone, Copy)]
 pub struct Grid {
     pub line: Line,
     pub width: usize,
@@ -35,7 +37,7 @@ pub struct Grid {
 // How a part of a row is made, from column lo up to hi: written from place `to` on, as it stands at `first` where a
 // pixel's line is at a block's first step, counted from step `top`, else chosen of `first` and `second`. All places
 // are those of column lo.
-#[derive(Drop)]
+#[derive(Clone, Copy)]
 pub struct Plan {
     pub lo: usize,
     pub hi: usize,

@@ -3,6 +3,8 @@
 //
 //     outcome_of   an answer
 //     shown        a ticket alone, as a row of numbers
+#![tactic(auto)]
+
 pub mod shown;
 
 ghost use Rattle.std.specs.Prelude.{◌≡◌};
@@ -13,7 +15,7 @@ use refusal::{Answer, report};
 // An answer: refusal is 0 for a finished page, a ticket that was read or a list that was run, else the number of the
 // refusal. 1 to 25 are the documents' (1 to 19 so far); 100 is ours and means a buffer of numbers that is too short.
 #[repr(C)]
-#[derive(Drop)]
+#[derive(Clone, Copy)]
 pub struct Outcome {
     pub refusal: u64,
     pub place: u64,

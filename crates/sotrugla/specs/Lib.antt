@@ -3,4 +3,3 @@ pub mod Hiding
 pub mod Pages
 pub mod Reasons
 pub mod Version
-pub mod Worked

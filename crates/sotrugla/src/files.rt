@@ -11,7 +11,7 @@ use refusal::report;
 
 // What is told of a file: refusal is 0 for one that is read, and the other numbers are zero at a refusal.
 #[repr(C)]
-#[derive(Drop)]
+#[derive(Clone, Copy)]
 pub struct PgmRead {
     pub refusal: u64,
     pub place: u64,
@@ -23,7 +23,7 @@ pub struct PgmRead {
 
 // What became of a job on a file: refusal is 0 for a finished one, whose file has so many bytes.
 #[repr(C)]
-#[derive(Drop)]
+#[derive(Clone, Copy)]
 pub struct PgmRun {
     pub refusal: u64,
     pub place: u64,

@@ -1,6 +1,8 @@
 // The library as C, Rust and Python link it: the proved job on plain numbers and slices. A slice is a pointer and
 // then a length; sizes are 64-bit numbers. No function here has a condition on its callers but that of every slice:
 // its bytes are there, and no two of the buffers overlap.
+#![tactic(auto)]
+
 pub mod files; // files.rt: pages that arrive as P5 files
 pub mod lists; // lists.rt: a whole tray in one call
 pub mod reasons; // reasons.rt: why a pixel came out so

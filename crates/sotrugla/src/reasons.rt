@@ -12,7 +12,7 @@ use why::{Told, ask};
 // What is told of a pixel: refusal is 0 where a reason is named, and every number that is not meant is zero. `number`
 // is the number of a box.
 #[repr(C)]
-#[derive(Drop)]
+#[derive(Clone, Copy)]
 pub struct Why {
     pub refusal: u64,
     pub place: u64,

@@ -6,7 +6,7 @@ use Prim.Native.Nat.{ℕ, suc, ◌+◌, ◌-◌, ◌*◌, ◌%◌, ◌≤◌, �
 use native.Mathlib.Nat.{mul-le-mul_right, suc-mul, zero-add, mod-eq_of_lt, one-mul}
 use native.Mathlib.Omega.{arith}
 use lib.ListN.{get_or}
-use Rattle.geometry.specs.Laws.{period_forward}
+use Rattle.geometry.proofs.Laws.{period_forward}
 use Rattle.runs.specs.Span.{chosen, chosen_comm}
 use Rattle.runs.specs.Grid.{start_row, line_name, number, spot}
 use Rattle.sweep.specs.Sweeps.{Ready, PartDone, RowSwept, target, new_at, cost_at}

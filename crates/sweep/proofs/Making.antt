@@ -1,16 +1,15 @@
 -- What the sweeps make at a pixel is what its line's laws say (BlockLaws), with its cost. Assumes nothing.
 use mathlib.Core.Path.{◌≡◌, sym, ap, ap₂, ◌∙◌, subst}
 use mathlib.Core.List.{List}
-use mathlib.Core.Logic.{◌⊎◌, ⊎_elim, by_cases}
+use mathlib.Core.Logic.{◌⊎◌, by_cases}
 use Prim.Native.Nat.{ℕ, suc, ◌+◌, ◌-◌, ◌%◌, ◌≤◌, ◌<◌}
 use native.Mathlib.Nat.{mod-le, mod-lt}
 use native.Mathlib.Decide.{dec_lt}
 use native.Mathlib.Omega.{arith}
-use lib.ListN.{length}
 use Rattle.geometry.specs.Line.{period, step_of}
 use Rattle.runs.specs.Span.{chosen}
 use Rattle.runs.specs.Block.{from_start, to_end, windowed, resulting}
-use Rattle.runs.specs.BlockLaws.{from_start_first, from_start_next, to_end_last, to_end_next, rightward_first, rightward_next, leftward_last, leftward_next, result_whole, result_block, result_across, result_cut, result_short, result_within, result_last, result_early, result_all, result_short_line}
+use Rattle.runs.proofs.BlockLaws.{from_start_first, from_start_next, to_end_last, to_end_next, rightward_first, rightward_next, leftward_last, leftward_next, result_whole, result_block, result_across, result_cut, result_short, result_within, result_last, result_early, result_all, result_short_line}
 use Rattle.runs.specs.Grid.{Page, Pixel, start_row, line_name, entry, leave, steps, row_at, column_at, along, number, line_steps, to_end_at, from_start_at, windowed_at, rightward_at, leftward_at, resulting_at}
 use Rattle.runs.specs.GridLaws.{StepOnPage, on_line, on_page_lem, own_step, start_small, row_again, column_again, number_is, number_below, page_on, to_end_on, from_start_on}
 use Rattle.runs.specs.declared.Grid.{Grid}

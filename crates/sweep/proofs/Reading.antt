@@ -6,7 +6,7 @@ use native.Mathlib.Nat.{mul-le-mul_right, suc-mul, add-mul, zero-add, add-zero, 
 use native.Mathlib.Omega.{arith}
 use lib.ListN.{get_or}
 use Rattle.geometry.specs.Line.{period}
-use Rattle.geometry.specs.Laws.{period_forward}
+use Rattle.geometry.proofs.Laws.{period_forward}
 use Rattle.runs.specs.Grid.{Page, Pixel, row_at, column_at, number, to_end_at, spot}
 use Rattle.runs.specs.GridLaws.{StepOnPage, row_fits, column_fits, row_again, column_again, spot_on}
 use Rattle.runs.specs.Scratch.{size}

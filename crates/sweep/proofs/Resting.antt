@@ -3,12 +3,11 @@ use mathlib.Core.Path.{◌≡◌, sym, ap, ap₂, ◌∙◌, subst}
 use mathlib.Core.Bool.{Bool}
 use mathlib.Core.List.{List}
 use Prim.Native.Nat.{ℕ, suc, ◌+◌, ◌-◌, ◌*◌, ◌%◌, ◌≤◌, ◌<◌, zero-le}
-use native.Mathlib.Nat.{mul-le-mul_left, mul-le-mul_right, mul-one, suc-mul, zero-add}
+use native.Mathlib.Nat.{mul-le-mul_right, suc-mul, zero-add}
 use native.Mathlib.Omega.{arith}
 use lib.ListN.{get_or}
-use Rattle.geometry.specs.Line.{period}
 use Rattle.geometry.specs.Drift.{drift}
-use Rattle.geometry.specs.Laws.{period_forward, drift_rises, drift_bound}
+use Rattle.geometry.proofs.Laws.{drift_rises}
 use Rattle.runs.specs.Span.{chosen}
 use Rattle.runs.specs.Grid.{Pixel, start_row, line_name, entry, row_at, column_at, number, spot}
 use Rattle.runs.specs.GridLaws.{StepOnPage, row_fits, spot_on}
@@ -20,7 +19,7 @@ use Rattle.sweep.specs.declared.Sweep.TheVariants.{Result}
 use Rattle.runs.proofs.Bounds.{entry_zero}
 use Rattle.sweep.proofs.Making.{small, start, entering, made_all, made_whole, made_cut, made_short, following}
 use Rattle.sweep.proofs.Reading.{read_B}
-use Rattle.runs.proofs.Planning.{pixel, here, name, target_is, drift_near}
+use Rattle.runs.proofs.Planning.{pixel, here, name, target_is}
 use Rattle.sweep.proofs.Places.{from_entry}
 use Rattle.runs.proofs.Running.{filled_none}
 use Rattle.sweep.proofs.Parts.{Free, Charged, copied_part, chosen_part}

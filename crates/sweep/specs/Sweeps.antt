@@ -1,6 +1,6 @@
 -- What each sweep makes, what it costs, and what it must find.
 -- Assumes nothing.
-use Rattle.std.specs.Prelude.{ℕ, zero, suc, ◌+◌, ◌-◌, ◌*◌, ◌%◌, ◌≤◌, ◌<◌, min, max, ◌⊎◌, ◌≡◌, List, length, get_or}
+use Rattle.std.specs.Prelude.{ℕ, suc, ◌+◌, ◌-◌, ◌*◌, ◌%◌, ◌≤◌, ◌<◌, min, max, ◌⊎◌, ◌≡◌, List, get_or}
 use Rattle.runs.specs.Grid.{Page, start_row, line_name, number, spot, from_start_at, to_end_at, windowed_at, rightward_at, leftward_at, resulting_at}
 use Rattle.runs.specs.declared.Grid.{Grid}
 use Rattle.runs.specs.Scratch.{size, total, Kept}

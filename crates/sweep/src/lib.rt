@@ -7,6 +7,8 @@
 //     rest    results whose windows end past their line
 //     bottom  those of lines that leave at the page's bottom
 //     pixel   such a result by itself
+#![tactic(auto)]
+
 mod bottom;
 mod pixel;
 mod rest;
@@ -14,7 +16,7 @@ mod row;
 pub mod rows;
 
 // A value, and how many comparisons it cost.
-#[derive(Drop)]
+#[derive(Clone, Copy)]
 pub struct Made {
     pub value: u8,
     pub count: usize,
@@ -22,7 +24,7 @@ pub struct Made {
 
 // The marks of lines whose windows, cut at the line's last step, lie in one block: of the marks up to `last` those
 // below `near`, of the others those below `far`.
-#[derive(Drop)]
+#[derive(Clone, Copy)]
 pub struct Within {
     pub last: u16,
     pub near: u16,
@@ -30,7 +32,7 @@ pub struct Within {
 }
 
 // The three sweeps of a pass.
-#[derive(Drop)]
+#[derive(Clone, Copy)]
 pub enum Sweep {
     Backward,
     Forward,

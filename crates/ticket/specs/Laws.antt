@@ -12,7 +12,7 @@ use Rattle.std.proofs.Math.Seq.{take-append_seam}
 use Rattle.std.proofs.Math.Dec.{leb}
 use Rattle.vectors.specs.Vector.{shallow, steep}
 use Rattle.refusal.specs.Answer.{is_done}
-use Rattle.refusal.specs.Chain.{unless, ◌then◌, then_done, unless_done, when-done, when-refused}
+use Rattle.refusal.specs.Chain.{unless, ◌then◌, then_done, unless_done, when_done_lem, when_refused}
 use Rattle.refusal.specs.declared.Answer.{Answer}
 use Rattle.refusal.specs.declared.Refusal.{Refusal}
 use Rattle.refusal.specs.declared.Refusal.TheVariants.{Unknown, BadVector, BadLength, BadOrigin, BadPhase}
@@ -205,11 +205,11 @@ good_allowed s bytes good =
 -- what the reader shows of a ticket that is good, and of one that is refused
 pub reading_good : (s : List ℕ) → is_done (judged s) ≡ true → (reading s).ticket ≡ shown s
 unfolding reading
-reading_good s h = when-done (judged s) (shown s) blank h
+reading_good s h = when_done_lem (judged s) (shown s) blank h
 
 pub reading_refused : (s : List ℕ) → is_done (judged s) ≡ false → (reading s).ticket ≡ blank
 unfolding reading
-reading_refused s h = when-refused (judged s) (shown s) blank h
+reading_refused s h = when_refused (judged s) (shown s) blank h
 
 -- the same law as a caller meets it, who has called the reader and found its answer done
 pub read_allowed : (s : List ℕ) (r : Reading) → Bytes s → r ≡ reading s → is_done r.answer ≡ true

@@ -2,7 +2,7 @@
 -- shows 64 box places, zero past its boxes, and at a refusal all fields and boxes are zero."
 -- Assumes nothing.
 use Rattle.std.specs.Prelude.{ℕ, ◌-◌, List, ◌++◌, length, replicate, pos}
-use Rattle.refusal.specs.Answer.{whenDone}
+use Rattle.refusal.specs.Answer.{when_done}
 use Rattle.fields.specs.Fields.{operation_in, line_in, dx_in, dy_in, length_in, origin_in, phase_in, most_boxes}
 use Rattle.ticket.specs.Boxes.{boxes_in}
 use Rattle.ticket.specs.Judging.{judged}
@@ -48,4 +48,4 @@ shown s =
 
 -- what the reader of a ticket answers
 unfoldable pub reading : List ℕ → Reading
-reading s = record { answer = judged s; ticket = whenDone (judged s) (shown s) blank }
+reading s = record { answer = judged s; ticket = when_done (judged s) (shown s) blank }

@@ -37,7 +37,7 @@ fn no_boxes() -> [HiddenBox; 64]
 }
 
 // The boxes of a ticket, found by one walk from head to head: how many they are, and their places.
-#[derive(Drop)]
+#[derive(Clone, Copy)]
 struct Boxes {
     count: usize,
     places: [HiddenBox; 64],

@@ -3,6 +3,7 @@
 // The definitions stand in specs/: Boxes (the boxes of a ticket), Judging (the order of judging), Reading (the ticket
 // as shown). Laws has what a caller may rely on: the fields of a ticket that was read are in their ranges. The refusals
 // are crate refusal's; bytes and fields, and the rules of vector and phase, are crate fields'.
+#![tactic(auto)]
 
 mod fill; // fill.rt: the ticket as shown, with its 64 box places
 mod judge; // judge.rt: the answer, field by field
@@ -13,7 +14,7 @@ ghost use Rattle.ticket.specs.Reading.{reading};
 use refusal::{Answer, report};
 
 // A box whose pixels are hidden: its left column, its top row, its sides.
-#[derive(Drop)]
+#[derive(Clone, Copy)]
 pub struct HiddenBox {
     pub left: usize,
     pub top: usize,
@@ -22,7 +23,7 @@ pub struct HiddenBox {
 }
 
 // The ticket as shown: its fields, how many boxes it has, and 64 box places.
-#[derive(Drop)]
+#[derive(Clone, Copy)]
 pub struct Ticket {
     pub operation: usize,
     pub line: usize,
@@ -37,7 +38,7 @@ pub struct Ticket {
 
 // What the reader answers: that the ticket is good, or the first refusal and the head of its field; and the ticket as
 // shown.
-#[derive(Drop)]
+#[derive(Clone, Copy)]
 pub struct Reading {
     pub answer: Answer,
     pub ticket: Ticket,

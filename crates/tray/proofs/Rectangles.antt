@@ -3,12 +3,12 @@
 use mathlib.Core.Path.{◌≡◌, sym, subst}
 use mathlib.Core.Bool.{Bool, true, false}
 use mathlib.Core.List.{List}
-use Prim.Native.Nat.{ℕ, ◌+◌, ◌-◌, ◌*◌, ◌/◌, ◌%◌, ◌≤◌, ◌<◌}
+use Prim.Native.Nat.{ℕ, ◌*◌, ◌/◌, ◌%◌, ◌≤◌, ◌<◌}
 use native.Mathlib.Nat.{mul-le-mul_right, mod-lt, div-add-mod', le-div_iff_mul-le}
 use native.Mathlib.Omega.{arith}
 use lib.ListN.{get_or}
 use Rattle.geometry.specs.Drift.{mirrored}
-use Rattle.geometry.specs.Laws.{mirrored_falling, mirrored_rising}
+use Rattle.geometry.proofs.Laws.{mirrored_falling, mirrored_rising}
 use Rattle.tray.specs.declared.Layout.{Layout}
 use Rattle.tray.specs.declared.Rectangle.{Rectangle}
 use Rattle.tray.specs.Turned.{down_of, across_of, compact_width, compact_height, compact_row, compact_column, compact_at}

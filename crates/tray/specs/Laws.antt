@@ -14,10 +14,10 @@ use native.Mathlib.Omega.{arith}
 use Rattle.std.proofs.lemmas.List.{length-replicate, get_or-replicate}
 use Rattle.std.proofs.Math.ListN.{get_or-append, get_or-eq_default}
 use Rattle.geometry.specs.Drift.{mirrored}
-use Rattle.geometry.specs.Laws.{mirrored_below, mirrored_twice}
+use Rattle.geometry.proofs.Laws.{mirrored_below, mirrored_twice}
 use Rattle.placement.specs.declared.Placement.{Placement}
 use Rattle.placement.specs.Placement.{row_start, byte_of, column_of, row_of, inside}
-use Rattle.placement.specs.Laws.{column_of_byte, row_of_byte, inside_byte, inside_pixel}
+use Rattle.placement.proofs.Laws.{column_of_byte, row_of_byte, inside_byte, inside_pixel}
 use Rattle.tray.specs.declared.Layout.{Layout}
 use Rattle.tray.specs.Written.{written_from, written, cleared}
 use Rattle.tray.specs.Turned.{down_of, across_of, compact_width, compact_height, compact_row, compact_column, compact_at}

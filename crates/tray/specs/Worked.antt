@@ -3,7 +3,7 @@
 -- Assumes nothing.
 use Rattle.std.specs.Prelude.{◌≡◌, refl, ℕ, ◌+◌, ◌*◌, Bool, true, false, List, [], ◌∷◌}
 use Rattle.placement.specs.Placement.{column_of, row_of, inside}
-use Rattle.placement.specs.Worked.{middle}
+use Rattle.placement.proofs.Worked.{middle}
 use Rattle.tray.specs.Written.{written_from, written, cleared}
 use Rattle.geometry.specs.Drift.{mirrored}
 use Rattle.tray.specs.Turned.{down_of, across_of, compact_column, compact_at}

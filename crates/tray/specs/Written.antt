@@ -2,7 +2,7 @@
 -- at zero"; "Only these first bytes may be used; they hold zero at the end of a finished job. Later scratch bytes keep
 -- their values."
 -- Assumes nothing.
-use Rattle.std.specs.Prelude.{ℕ, zero, suc, cond, List, [], ◌∷◌, ◌++◌, replicate, drop}
+use Rattle.std.specs.Prelude.{ℕ, suc, cond, List, [], ◌∷◌, ◌++◌, replicate, drop}
 use Rattle.placement.specs.declared.Placement.{Placement}
 use Rattle.placement.specs.Placement.{column_of, row_of, inside}
 

@@ -10,6 +10,8 @@
 //     paint   a rectangle painted, the scratch cleared
 //     sides   the compact page's sides
 //     boxes   a box of the page painted on the compact page
+#![tactic(auto)]
+
 pub mod boxes;
 pub mod paint;
 pub mod row;
@@ -17,7 +19,7 @@ pub mod sides;
 
 // How a page of these sides is laid out compactly, so that lines run down the rows and drift to the right: as it is
 // where they are steep, transposed where they are not, and mirrored where they fall.
-#[derive(Drop)]
+#[derive(Clone, Copy)]
 pub struct Layout {
     pub steep: bool,
     pub falls: bool,
@@ -26,7 +28,7 @@ pub struct Layout {
 }
 
 // Some rows and columns of a page: from top to just above bottom, from left to just before right.
-#[derive(Drop)]
+#[derive(Clone, Copy)]
 pub struct Rectangle {
     pub top: usize,
     pub bottom: usize,

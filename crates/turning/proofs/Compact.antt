@@ -1,10 +1,10 @@
 -- The compact page: that it fits its tray, and what pages taken in and given out hold.
 -- Assumes nothing.
-use Rattle.std.proofs.Common.{◌≡◌, ℕ, ◌+◌, ◌-◌, ◌*◌, ◌<◌, ◌≤◌, Bool, true, false, List, length, get_or, sym, refl, ap, ◌∙◌, subst, le_refl, mul_comm, arith}
+use Rattle.std.proofs.Common.{◌≡◌, ℕ, ◌+◌, ◌-◌, ◌*◌, ◌<◌, ◌≤◌, Bool, true, false, List, length, get_or, sym, ap, ◌∙◌, subst, le_refl, mul_comm, arith}
 use Rattle.geometry.specs.Drift.{mirrored}
-use Rattle.geometry.specs.Laws.{mirrored_rising, mirrored_twice}
+use Rattle.geometry.proofs.Laws.{mirrored_rising, mirrored_twice}
 use Rattle.placement.specs.Placement.{byte_of, pixel_in, longest_side, Placed}
-use Rattle.placement.specs.Laws.{outside_past}
+use Rattle.placement.proofs.Laws.{outside_past}
 use Rattle.placement.specs.declared.Placement.{Placement}
 use Rattle.tray.specs.declared.Layout.{Layout}
 use Rattle.turning.specs.declared.turn.Turn.{Turn}

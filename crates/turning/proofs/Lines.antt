@@ -6,11 +6,11 @@ use native.Mathlib.Nat.{add-mod_right}
 use native.Mathlib.Decide.{dec_lt}
 use borrow.Rule.Slice.PartMut.{put_mid}
 use Rattle.placement.specs.Placement.{row_start, byte_of, pixel_in, Placed}
-use Rattle.placement.specs.Laws.{row_room, row_next, row_pixel, byte_is}
+use Rattle.placement.proofs.Laws.{row_room, row_next, row_pixel, byte_is}
 use Rattle.placement.specs.declared.Placement.{Placement}
 use Rattle.turning.specs.declared.turn.Turn.{Turn}
 use Rattle.geometry.specs.Drift.{mirrored}
-use Rattle.geometry.specs.Laws.{mirrored_falling, mirrored_rising, mirrored_below, mirrored_twice}
+use Rattle.geometry.proofs.Laws.{mirrored_falling, mirrored_rising, mirrored_below, mirrored_twice}
 use Rattle.tray.specs.Promises.{RowFilled}
 use Rattle.turning.specs.Tiles.{Copied, Transposed}
 use Rattle.turning.specs.Pieces.{Right, Moved, Taken, Part, PutRows}

@@ -5,12 +5,12 @@ use mathlib.Core.Logic.{by_cases}
 use native.Mathlib.Decide.{dec_lt}
 use borrow.Rule.Slice.PartMut.{put_mid}
 use Rattle.placement.specs.Placement.{row_start, byte_of, column_of, row_of, inside, Placed}
-use Rattle.placement.specs.Laws.{row_room, rows_apart, byte_is, inside_byte, inside_pixel}
+use Rattle.placement.proofs.Laws.{row_room, rows_apart, byte_is, inside_byte, inside_pixel}
 use Rattle.placement.specs.declared.Placement.{Placement}
 use Rattle.turning.specs.declared.turn.Turn.{Turn}
 use Rattle.tray.specs.Written.{written}
 use Rattle.geometry.specs.Drift.{mirrored}
-use Rattle.geometry.specs.Laws.{mirrored_below, mirrored_twice}
+use Rattle.geometry.proofs.Laws.{mirrored_below, mirrored_twice}
 use Rattle.turning.specs.Pieces.{Right, Moved, Turnable, Stored, Part}
 use Rattle.tray.specs.Laws.{length_written, written_at}
 use Rattle.tray.proofs.Lent.{lent_length, lent_below, lent_within, lent_above}

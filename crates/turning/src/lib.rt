@@ -6,5 +6,7 @@
 //
 //     turn    a page taken in and laid out compactly, and back
 //     tile    sixteen by sixteen pixels transposed at a time
+#![tactic(auto)]
+
 mod tile;
 pub mod turn;

@@ -20,7 +20,7 @@ use tray::sides::compact;
 
 // A page and its transposed page. Where readup is true the source's rows are taken from the last one up, and where
 // writeup is true the target's rows are filled from the last one up.
-#[derive(Drop)]
+#[derive(Clone, Copy)]
 pub struct Turn {
     pub source: Placement,
     pub target: Placement,

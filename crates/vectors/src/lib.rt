@@ -1,5 +1,7 @@
 // Which way a vector (dx, dy) runs, and its two components along the major and the minor axis. The definitions stand in
 // specs/Vector.
+#![tactic(auto)]
+
 ghost use Rattle.std.specs.Prelude.{◌≡◌, ◌<◌, ◌^◌, nat_abs};
 ghost use Rattle.vectors.specs.Vector.{shallow, steep, major_of, minor_of};
 

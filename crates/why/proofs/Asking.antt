@@ -7,7 +7,7 @@ use borrow.Author.Tests.{ltb-true}
 use lib.Dec.{ltb}
 use lib.ListN.{length}
 use Rattle.refusal.specs.Answer.{is_done}
-use Rattle.refusal.specs.Chain.{◌then◌, then_on, then_stop, then_done, unless_done, when-done, when-refused}
+use Rattle.refusal.specs.Chain.{◌then◌, then_on, then_stop, then_done, unless_done, when_done_lem, when_refused}
 use Rattle.refusal.specs.declared.Answer.{Answer}
 use Rattle.refusal.specs.declared.Later.TheVariants.{PixelOffPage}
 use Rattle.refusal.specs.declared.Refusal.TheVariants.{Later}
@@ -37,7 +37,7 @@ module _ (ticket : List ℕ) (p : Placements) (source : List ℕ) (output scratc
   refused_as a given is refused given_is =
       given_is
       ∙ ap₂ {C = Told} (λ (x : Answer) (y : Reason). record { answer = x; reason = y }) is
-      (sym (when-refused _ _ no_reason (ap is_done (sym is) ∙ refused)))
+      (sym (when_refused _ _ no_reason (ap is_done (sym is) ∙ refused)))
 
   module _ (r : Reading) (read : r ≡ reading ticket) where
     read_answer : r.answer ≡ judged ticket
@@ -103,4 +103,4 @@ module _ (ticket : List ℕ) (p : Placements) (source : List ℕ) (output scratc
               ap₂ {C = Told} (λ (x : Answer) (y : Reason). record { answer = x; reason = y }) answered
               (is
               ∙ ap₂ (λ (t : Ticket) (q : Placement). reason_of t q source at) read_ticket from_is
-              ∙ sym (when-done _ _ no_reason (ap is_done (sym answered) ∙ all)))
+              ∙ sym (when_done_lem _ _ no_reason (ap is_done (sym answered) ∙ all)))

@@ -7,3 +7,4 @@ mod Searching
 mod Gathering
 mod Boxed
 mod Asking
+pub mod Laws

@@ -9,14 +9,14 @@ use native.Mathlib.Nat.{add-zero}
 use native.Mathlib.Omega.{arith}
 use Rattle.geometry.specs.Drift.{Sound, first}
 use Rattle.geometry.specs.Line.{landing, step_of, major_at}
-use Rattle.geometry.specs.Laws.{own_landing, major_at_step, major_of_major, step_of_major, landing_onward}
+use Rattle.geometry.proofs.Laws.{own_landing, major_at_step, major_of_major, step_of_major, landing_onward}
 use Rattle.geometry.specs.declared.Line.{Line}
 use Rattle.tray.specs.Turned.{down_of, across_of}
 use Rattle.filter.specs.Seen.{View, runs_steep}
 use Rattle.filter.specs.Axes.{down_back, across_back}
 use Rattle.filter.specs.Engine.{Absent}
 use Rattle.filter.specs.Filters.{in_window}
-use Rattle.finding.specs.Laws.{first_shifted}
+use Rattle.finding.proofs.Laws.{first_shifted}
 use Rattle.nearby.specs.Stand.{standing_of, step_in, major_in, minor_in, pixel_by, pixel_in, near_at}
 use Rattle.nearby.specs.Laws.{There, pixel_there}
 use Rattle.nearby.specs.declared.Pixel.{Pixel}

@@ -15,11 +15,11 @@ use borrow.Author.Tests.{le-leb, lt-leb}
 use lib.Dec.{leb}
 use Rattle.geometry.specs.Line.{landing, step_of, major_at}
 use Rattle.geometry.specs.Drift.{Sound}
-use Rattle.geometry.specs.Laws.{step_of_major}
+use Rattle.geometry.proofs.Laws.{step_of_major}
 use Rattle.geometry.specs.declared.Line.{Line}
 use Rattle.filter.specs.Seen.{View}
 use Rattle.filter.specs.Filters.{extreme, value_at, on_line, in_window, pass_at, pass}
-use Rattle.filter.specs.Laws.{extreme_shifted, same_line}
+use Rattle.filter.proofs.Laws.{extreme_shifted, same_line}
 use Rattle.finding.specs.Row.{pass_at_place, pass_in}
 
 -- the steps of a window of the pixel itself, in a row that begins further before it

@@ -11,11 +11,11 @@ use lib.Dec.{eqb}
 use lib.ListN.{length, get_or}
 use Rattle.geometry.specs.Drift.{first}
 use Rattle.filter.specs.Filters.{extreme}
-use Rattle.filter.specs.Laws.{extreme_same}
+use Rattle.filter.proofs.Laws.{extreme_same}
 use Rattle.finding.specs.Row.{absent, grey_in, value_of, in_row, pass_at_place, pass_in, first_pass, result_of, through_of}
 use Rattle.finding.specs.Row.{from_of}
 use Rattle.finding.specs.Promises.{Lies, Fits}
-use Rattle.finding.specs.Laws.{Grey, back_option, fits_lies, first_same}
+use Rattle.finding.proofs.Laws.{Grey, back_option, fits_lies, first_same}
 use Rattle.finding.specs.declared.Search.{Search}
 use Rattle.why.specs.Reason.{has}
 

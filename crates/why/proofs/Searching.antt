@@ -9,7 +9,7 @@ use lib.ListN.{length}
 use Rattle.ticket.specs.declared.Ticket.{Ticket}
 use Rattle.finding.specs.Row.{absent, result_of, hit_of}
 use Rattle.finding.specs.Promises.{Fits}
-use Rattle.finding.specs.Laws.{IsHit, hit_is, fits_lies}
+use Rattle.finding.proofs.Laws.{IsHit, hit_is, fits_lies}
 use Rattle.finding.specs.declared.Hit.{Hit}
 use Rattle.finding.specs.declared.Search.{Search}
 use Rattle.nearby.specs.Stand.{pixel_in}

@@ -20,16 +20,16 @@ use Rattle.filter.specs.Seen.{View, seen, runs_steep}
 use Rattle.filter.specs.Axes.{turned_is, turned_back}
 use Rattle.filter.specs.Engine.{Absent, back_of}
 use Rattle.filter.specs.Filters.{joined, extreme, in_window, pass, operated, filtered, or_white}
-use Rattle.filter.specs.Laws.{extreme_shifted, pass_there, pass_some, own_value}
-use Rattle.filter.specs.Absence.{seen_shown, absent_turned}
-use Rattle.filter.specs.Within.{Within, seen_within, page_within}
+use Rattle.filter.proofs.Laws.{extreme_shifted, pass_there, pass_some, own_value}
+use Rattle.filter.proofs.Absence.{seen_shown, absent_turned}
+use Rattle.filter.proofs.Within.{Within, seen_within, page_within}
 use Rattle.job.specs.Order.{line_of, segment_of, recipe_of, white}
 use Rattle.job.specs.Job.{finished_with, finished}
 use Rattle.job.specs.Laws.{finished_is, line_sound}
 use Rattle.finding.specs.Row.{absent, value_of, pass_at_place, pass_in, result_of, first_pass, through_of, from_of, hit_with}
 use Rattle.finding.specs.Row.{hit_of}
 use Rattle.finding.specs.Promises.{Lies, Fits}
-use Rattle.finding.specs.Laws.{Grey, value_some, fits_lies, first_shifted, IsHit, hit_is}
+use Rattle.finding.proofs.Laws.{Grey, value_some, fits_lies, first_shifted, IsHit, hit_is}
 use Rattle.finding.specs.declared.Hit.{Hit}
 use Rattle.finding.specs.declared.Search.{Search}
 use Rattle.nearby.specs.Stand.{standing_of, pixel_in, near_at}

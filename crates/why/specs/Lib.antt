@@ -1,5 +1,4 @@
 pub mod Reason
 pub mod Told
 pub mod Promises
-pub mod Laws
 pub mod Named

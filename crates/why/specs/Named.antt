@@ -13,7 +13,7 @@ use native.Mathlib.Omega.{arith}
 use Rattle.std.proofs.lemmas.Bool.{lt-leb}
 use Rattle.geometry.specs.Line.{landing, step_of, major_at}
 use Rattle.geometry.specs.Drift.{first}
-use Rattle.geometry.specs.Laws.{first_is}
+use Rattle.geometry.proofs.Laws.{first_is}
 use Rattle.geometry.specs.declared.Line.{Line}
 use Rattle.ticket.specs.declared.Ticket.{Ticket}
 use Rattle.boxes.specs.Boxes.{boxes_of}
@@ -25,11 +25,12 @@ use Rattle.filter.specs.Axes.{down_back, across_back}
 use Rattle.filter.specs.Filters.{value_at, on_line, in_window, pass, eroded, dilated, opened, closed, operated}
 use Rattle.filter.specs.Filters.{erosion, dilation, opening, closing}
 use Rattle.filter.specs.Engine.{back_of}
-use Rattle.filter.specs.Laws.{InWindow, Found, pass_found}
+use Rattle.filter.proofs.Laws.{pass_found}
+use Rattle.filter.specs.Windows.{InWindow, Found}
 use Rattle.filter.specs.declared.Segment.{Segment}
 use Rattle.job.specs.Job.{finished}
 use Rattle.job.specs.Order.{line_of, segment_of}
-use Rattle.finding.specs.Laws.{first_same}
+use Rattle.finding.proofs.Laws.{first_same}
 use Rattle.nearby.specs.declared.Pixel.{Pixel}
 use Rattle.why.specs.Reason.{has, first_with, place_of, pixel_at, named, starts_low, passes_twice, first_pass_of}
 use Rattle.why.specs.Reason.{one_pass, two_passes, by_one_pass, by_two_passes, seen_by, by_steps}

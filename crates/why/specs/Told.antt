@@ -2,7 +2,7 @@
 -- the page, after 14, place 0." 12 and 13 are judged by the lengths, as for the job. Nothing is lent to be written.
 -- Assumes nothing.
 use Rattle.std.specs.Prelude.{ℕ, ◌&&◌, List, ltb, length}
-use Rattle.refusal.specs.Answer.{whenDone}
+use Rattle.refusal.specs.Answer.{when_done}
 use Rattle.refusal.specs.Chain.{unless, ◌then◌}
 use Rattle.refusal.specs.declared.Answer.{Answer}
 use Rattle.refusal.specs.declared.Later.TheVariants.{PixelOffPage}
@@ -31,4 +31,4 @@ lengths_of source output scratch = record { source = length source; output = out
 unfoldable pub told : List ℕ → Placements → List ℕ → ℕ → ℕ → Pixel → Told
 told ticket p source output scratch at =
     let answer = why_answer ticket p (lengths_of source output scratch) at in
-    record { answer = answer; reason = whenDone answer (reason_of (shown ticket) (source_page p) source at) no_reason }
+    record { answer = answer; reason = when_done answer (reason_of (shown ticket) (source_page p) source at) no_reason }

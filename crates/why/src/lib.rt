@@ -1,11 +1,13 @@
 // Why a pixel came out so. Document 02, wish 4: given a job and a pixel, the reason. Nothing is filtered and nothing is
 // written: the values near the pixel are gathered in a row (`nearby`), and the reason is searched there (`finding`).
 // The definitions stand in specs/: Reason (what is named), Told (refusals, and the reason of a job that would finish),
-// Promises (what the functions here ask of one another), and Laws, what follows.
+// Promises (what the functions here ask of one another). Laws, in proofs/, is what follows.
 //
 //     ask      the question, with no condition on its callers: why
 //     steps    the reason for a pixel of a page that is there
 //     order    what a ticket orders of the search
+#![tactic(auto)]
+
 pub mod ask;
 mod order;
 mod steps;
@@ -16,7 +18,7 @@ use refusal::Answer;
 // A reason: kind 1, a hidden box, by its number from 0; 3, one pass, `through` the pixel itself and `from` the step of
 // its window; 4, two passes, `through` the step of the second window and `from` the one of that step's own window. 2 is
 // left for a kept box. A number that is not meant is 0, and so is the kind where nothing is named.
-#[derive(Drop)]
+#[derive(Clone, Copy)]
 pub struct Reason {
     pub kind: usize,
     pub number: usize,
@@ -26,7 +28,7 @@ pub struct Reason {
 }
 
 // What is told: done, with no work, and a reason; or refused, and none.
-#[derive(Drop)]
+#[derive(Clone, Copy)]
 pub struct Told {
     pub answer: Answer,
     pub reason: Reason,

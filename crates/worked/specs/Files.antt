@@ -12,7 +12,7 @@ use Rattle.geometry.specs.Number as Number
 use Rattle.runs.specs.Span.{chosen}
 use Rattle.runs.specs.Block.{rightward, leftward, resulting}
 use Rattle.runs.specs.Scratch.{total}
-use Rattle.refusal.specs.Answer.{number_of, place_of, work_in, is_done, whenDone}
+use Rattle.refusal.specs.Answer.{number_of, place_of, work_in, is_done, when_done}
 use Rattle.refusal.specs.Chain.{unless, ◌then◌}
 use Rattle.refusal.specs.declared.Answer.{Answer}
 use Rattle.refusal.specs.declared.Answer.TheVariants.{Done, Refused}
@@ -106,7 +106,7 @@ unfolding shallow steep major_of minor_of
     nearest D shift period profile place landing step_of major_at
     within in_page count Number.behind ahead
     chosen rightward leftward resulting total
-    number_of place_of work_in is_done whenDone unless ◌then◌
+    number_of place_of work_in is_done when_done unless ◌then◌
     byte_at number_at signed16 signed_at operation_in line_in dx_in dy_in
     length_in origin_in phase_in field_end box_at boxes_from boxes_in
     judge_head judge_size judge_field operation_known line_known is_periodic divided

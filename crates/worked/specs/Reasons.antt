@@ -9,7 +9,7 @@ use Rattle.vectors.specs.Vector.{shallow, steep, major_of, minor_of}
 use Rattle.geometry.specs.Drift.{first}
 use Rattle.geometry.specs.Line.{nearest, D, shift, period, profile, place, landing, step_of, major_at}
 use Rattle.runs.specs.Span.{chosen}
-use Rattle.refusal.specs.Answer.{whenDone}
+use Rattle.refusal.specs.Answer.{when_done}
 use Rattle.refusal.specs.Chain.{unless, ◌then◌}
 use Rattle.refusal.specs.declared.Answer.TheVariants.{Done, Refused}
 use Rattle.refusal.specs.declared.Later.TheVariants.{PixelOffPage}
@@ -104,7 +104,7 @@ worked_reasons :
     ∷ [])
 unfolding shallow steep major_of minor_of
     first nearest D shift period profile place landing step_of major_at
-    chosen whenDone unless ◌then◌
+    chosen when_done unless ◌then◌
     byte_at number_at signed16 signed_at operation_in line_in dx_in dy_in
     length_in origin_in phase_in field_end box_at boxes_from boxes_in
     judge_head judge_size judge_field operation_known line_known is_periodic divided

@@ -1,0 +1,12 @@
+-- `stand::down_of` meets its contract.
+-- Assumes nothing.
+use Rattle.tray.specs.Turned.{down_of}
+use Rattle.nearby.proofs.stand.down_of.Goals as goal
+
+pub returns-then-steep : goal.returns-then-steep
+unfolding down_of
+returns-then-steep c = rw c.if-steep.true
+
+pub returns-else-steep : goal.returns-else-steep
+unfolding down_of
+returns-else-steep c = rw c.if-steep.false

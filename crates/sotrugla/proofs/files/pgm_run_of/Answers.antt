@@ -1,0 +1,12 @@
+-- `sotrugla::files::pgm_run_of` meets its contract. Assumes nothing.
+use Rattle.sotrugla.proofs.files.pgm_run_of.Goals as goal
+
+pub returns : goal.returns
+returns c =
+    λ i.
+    record {
+      refusal = c.number.ensures i;
+      place = c.place.ensures i;
+      work = c.work.ensures i;
+      length = c.args.d.length;
+    }
