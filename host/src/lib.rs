@@ -39,7 +39,7 @@
 //!
 //! # Threads
 //!
-//! Threads may call at the same time. A call takes some 160,000 bytes of stack, so give a thread 256 KiB:
+//! Threads may call at the same time. A call takes some 170,000 bytes of stack, so give a thread 256 KiB:
 //! the 2 MiB that Rust gives one are enough.
 //!
 //! ```

@@ -5,7 +5,7 @@ from __future__ import annotations
 import ctypes
 import threading
 
-# A call takes some 160,000 bytes. The rest is for Python's own frames, above it and beneath.
+# A call takes some 170,000 bytes. The rest is for Python's own frames, above it and beneath.
 NEEDED = 512 * 1024
 
 _seen = threading.local()

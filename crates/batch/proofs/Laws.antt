@@ -5,9 +5,8 @@ use Rattle.std.specs.Prelude.{◌≡◌, Bool, true, false, cond, List, [], ◌�
 use Rattle.std.proofs.Math.Path.{refl}
 use Rattle.std.proofs.Common.{arith, get_or-drop}
 use borrow.Author.Tests.{leb-true, le-leb}
-use Rattle.refusal.specs.Answer.{number_of, is_done}
+use Rattle.refusal.specs.Answer.{number_of, is_done, Answer}
 use Rattle.refusal.specs.Chain.{unless, ◌then◌, then_done, unless_done}
-use Rattle.refusal.specs.declared.Answer.{Answer}
 use Rattle.refusal.specs.declared.Later.TheVariants.{TooManyJobs, NumbersTooFew}
 use Rattle.refusal.specs.declared.Refusal.TheVariants.{Later}
 use Rattle.ticket.specs.Laws.{Bytes}

@@ -9,10 +9,8 @@ use borrow.Author.Tests.{le-leb, lt-leb}
 use lib.Dec.{leb}
 use lib.ListN.{length, drop}
 use lib.Seq.{sets}
-use Rattle.refusal.specs.Answer.{when_done}
+use Rattle.refusal.specs.Answer.{when_done, Answer, done_with, refused_at}
 use Rattle.refusal.specs.Chain.{unless, ◌then◌}
-use Rattle.refusal.specs.declared.Answer.{Answer}
-use Rattle.refusal.specs.declared.Answer.TheVariants.{Done, Refused}
 use Rattle.refusal.specs.declared.Later.TheVariants.{TooManyJobs, NumbersTooFew}
 use Rattle.refusal.specs.declared.Refusal.TheVariants.{Later}
 use Rattle.tray.specs.Written.{cleared}
@@ -54,7 +52,6 @@ ran_one tickets source output scratch after used ticket job named given is part 
 
 -- k jobs of a list have run: the trays, the numbers stored, and the numbers still to be stored
 pub record Underway (count : ℕ) (l : Lent) (answers : List ℕ) (k : ℕ) (now : Trays) (stored : List ℕ) : Type 0 where
-  pub most : k ≤ count
   pub left_is : now ≡ trays_after l k
   pub output_long : length now.output ≡ length l.output
   pub scratch_long : length now.scratch ≡ length l.scratch
@@ -67,7 +64,6 @@ pub none_run :
 unfolding trays_after
 none_run count l answers =
     record {
-      most = omega arith;
       left_is = refl;
       output_long = refl;
       scratch_long = refl;
@@ -92,7 +88,6 @@ one_more count l answers k before after stored next given below u output_kept sc
     told_more l k (count - (k + 1)) given stored next _ is put
     (ap (λ (n : ℕ). sets stored (3 * k) (told_from l k n)) (sym left) ∙ u.stored_is) in
     record {
-      most = omega arith;
       left_is =
           ran.left_is
           ∙ ap (after_job l.tickets l.source (listed_at l.jobs k)) u.left_is
@@ -118,11 +113,12 @@ all_run count l answers k now stored done u =
 -- ---- the whole call
 
 -- what a call answers and leaves, as its four promises have it
-abbrev pub Called : ℕ → Lent → List ℕ → Answer → List ℕ → List ℕ → List ℕ → Type 0
-Called count l answers given output scratch stored =
-    (given ≡ list_answer count (length l.jobs) (length answers))
-    × ((output ≡ list_output_after count l answers)
-    × ((scratch ≡ list_scratch_after count l answers) × (stored ≡ list_answers_after count l answers)))
+pub record Called (count : ℕ) (l : Lent) (answers : List ℕ) (given : Answer)
+    (output scratch stored : List ℕ) : Type 0 where
+  pub answered : given ≡ list_answer count (length l.jobs) (length answers)
+  pub written : output ≡ list_output_after count l answers
+  pub cleared : scratch ≡ list_scratch_after count l answers
+  pub told : stored ≡ list_answers_after count l answers
 
 module _ (count : ℕ) (l : Lent) (answers : List ℕ) where
   -- what the trays hold follows from the answer
@@ -134,56 +130,56 @@ module _ (count : ℕ) (l : Lent) (answers : List ℕ) where
       (when_done given (trays_after l count).scratch l.scratch)
       stored
   unfolding list_output_after list_scratch_after
-  called given stored answer-is stored_is = (
-    answer-is,
-    (
-      ap (λ (a : Answer). when_done a (trays_after l count).output l.output) answer-is,
-      (ap (λ (a : Answer). when_done a (trays_after l count).scratch l.scratch) answer-is, stored_is),
-    ),
-  )
+  called given stored answer-is stored_is =
+      record {
+        answered = answer-is;
+        written = ap (λ (a : Answer). when_done a (trays_after l count).output l.output) answer-is;
+        cleared = ap (λ (a : Answer). when_done a (trays_after l count).scratch l.scratch) answer-is;
+        told = stored_is;
+      }
 
   pub answers_short : length answers < answers_needed
-      → Called count l answers (Refused (Later NumbersTooFew) answers_needed) l.output l.scratch answers
+      → Called count l answers (refused_at (Later NumbersTooFew) answers_needed) l.output l.scratch answers
   unfolding list_answer list_answers_after unless ◌then◌ when_done
   answers_short short =
-      called (Refused (Later NumbersTooFew) answers_needed) answers
-      (rw (lt-leb answers_needed (length answers) short) refl)
-      (rw (lt-leb answers_needed (length answers) short) refl)
+      called (refused_at (Later NumbersTooFew) answers_needed) answers
+      (rw (lt-leb answers_needed (length answers) short))
+      (rw (lt-leb answers_needed (length answers) short))
 
   module _ (room : answers_needed ≤ length answers) where
     fits : leb answers_needed (length answers) ≡ true
     fits = le-leb answers_needed (length answers) room
 
     pub too_many : (stored : List ℕ) → most_jobs < count → stored ≡ cleared answers_needed answers
-        → Called count l answers (Refused (Later TooManyJobs) 0) l.output l.scratch stored
+        → Called count l answers (refused_at (Later TooManyJobs) 0) l.output l.scratch stored
     unfolding list_answer list_answers_after unless ◌then◌ when_done
     too_many stored many is =
-        called (Refused (Later TooManyJobs) 0) stored
-        (rw (fits, lt-leb count most_jobs many) refl)
+        called (refused_at (Later TooManyJobs) 0) stored
+        (rw (fits, lt-leb count most_jobs many))
         (rw (fits, lt-leb count most_jobs many) is)
 
     pub numbers_short : count ≤ most_jobs → length l.jobs < job_numbers count
-        → Called count l answers (Refused (Later NumbersTooFew) (job_numbers count)) l.output l.scratch answers
+        → Called count l answers (refused_at (Later NumbersTooFew) (job_numbers count)) l.output l.scratch answers
     unfolding list_answer list_answers_after unless ◌then◌ when_done
     numbers_short few short =
-        called (Refused (Later NumbersTooFew) (job_numbers count)) answers
-        (rw (fits, le-leb count most_jobs few, lt-leb (job_numbers count) (length l.jobs) short) refl)
-        (rw (fits, le-leb count most_jobs few, lt-leb (job_numbers count) (length l.jobs) short) refl)
+        called (refused_at (Later NumbersTooFew) (job_numbers count)) answers
+        (rw (fits, le-leb count most_jobs few, lt-leb (job_numbers count) (length l.jobs) short))
+        (rw (fits, le-leb count most_jobs few, lt-leb (job_numbers count) (length l.jobs) short))
 
     pub all_called : (zeros stored : List ℕ) (after : Trays) → count ≤ most_jobs → job_numbers count ≤ length l.jobs
         → zeros ≡ cleared answers_needed answers → RanJobs count l zeros after stored
-        → Called count l answers (Done 0) after.output after.scratch stored
+        → Called count l answers (done_with 0) after.output after.scratch stored
     unfolding list_answer list_answers_after unless ◌then◌ when_done
     all_called zeros stored after few numbers clear ran =
         let put : stored ≡ answers_of l count ++ drop answers_needed answers =
         ran.stored_is ∙ ap (λ (d : List ℕ). sets d 0 (told_from l 0 count)) clear ∙ all_told l count answers few room in
         let done =
-        called (Done 0) stored
-        (rw (fits, le-leb count most_jobs few, le-leb (job_numbers count) (length l.jobs) numbers) refl)
-        (rw (fits, le-leb count most_jobs few, le-leb (job_numbers count) (length l.jobs) numbers) put) in (
-          done.0,
-          (
-            ap (λ (t : Trays). t.output) ran.left_is ∙ done.1.0,
-            (ap (λ (t : Trays). t.scratch) ran.left_is ∙ done.1.1.0, done.1.1.1),
-          ),
-        )
+        called (done_with 0) stored
+        (rw (fits, le-leb count most_jobs few, le-leb (job_numbers count) (length l.jobs) numbers))
+        (rw (fits, le-leb count most_jobs few, le-leb (job_numbers count) (length l.jobs) numbers) put) in
+        record {
+          answered = done.answered;
+          written = ap (λ (t : Trays). t.output) ran.left_is ∙ done.written;
+          cleared = ap (λ (t : Trays). t.scratch) ran.left_is ∙ done.cleared;
+          told = done.told;
+        }

@@ -1,5 +1,6 @@
 -- The answers put into their buffer, store by store. Assumes nothing.
 use mathlib.Core.Path.{◌≡◌, sym, ap, ◌∙◌}
+use Rattle.refusal.specs.Answer.{Answer}
 use mathlib.Core.List.{List, [], ◌++◌, append_assoc}
 use Prim.Native.Nat.{ℕ, suc, ◌+◌, ◌-◌, ◌*◌, ◌≤◌}
 use native.Mathlib.Nat.{zero-add}
@@ -7,7 +8,6 @@ use native.Mathlib.Numerals.{add-one}
 use native.Mathlib.Omega.{arith}
 use lib.ListN.{length, drop, replicate, length-replicate, replicate-append-replicate}
 use lib.Seq.{sets, sets-eq, length-sets, drop_at}
-use Rattle.refusal.specs.declared.Answer.{Answer}
 use Rattle.tray.specs.Written.{cleared}
 use Rattle.listing.specs.Numbers.{answers_needed, told}
 use Rattle.batch.specs.Batch.{Lent, answer_at}

@@ -3,7 +3,7 @@
 -- leaves, and nothing else.
 -- Assumes nothing.
 use Rattle.std.specs.Prelude.{List, ℕ, zero, suc}
-use Rattle.refusal.specs.declared.Answer.{Answer}
+use Rattle.refusal.specs.Answer.{Answer}
 use Rattle.job.specs.Job.{lengths, answer, output_after, scratch_after}
 use Rattle.listing.specs.Listed.{listed_at, ticket_of}
 use Rattle.listing.specs.declared.Listed.{Listed}

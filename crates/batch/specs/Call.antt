@@ -4,9 +4,8 @@
 -- decided here.
 -- Assumes nothing.
 use Rattle.std.specs.Prelude.{cond, List, [], ◌++◌, ℕ, zero, suc, ◌-◌, ◌*◌, leb, length, replicate, drop}
-use Rattle.refusal.specs.Answer.{when_done}
+use Rattle.refusal.specs.Answer.{when_done, Answer}
 use Rattle.refusal.specs.Chain.{unless, ◌then◌}
-use Rattle.refusal.specs.declared.Answer.{Answer}
 use Rattle.refusal.specs.declared.Later.TheVariants.{TooManyJobs, NumbersTooFew}
 use Rattle.refusal.specs.declared.Refusal.TheVariants.{Later}
 use Rattle.tray.specs.Written.{cleared}

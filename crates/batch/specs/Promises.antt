@@ -1,8 +1,8 @@
 -- What the functions below the call promise one another. Nothing here is needed to read what a call does (Call).
 -- Assumes nothing.
 use Rattle.std.specs.Prelude.{◌≡◌, List, ℕ}
+use Rattle.refusal.specs.Answer.{Answer}
 use Rattle.std.proofs.lemmas.List.Edits.{sets}
-use Rattle.refusal.specs.declared.Answer.{Answer}
 use Rattle.listing.specs.declared.Listed.{Listed}
 use Rattle.batch.specs.Batch.{Lent, Trays, single_answer, after_job, trays_after}
 use Rattle.batch.specs.Call.{told_from}

@@ -6,7 +6,7 @@ ghost use Rattle.batch.specs.Call.{list_answer, list_output_after, list_scratch_
 ghost use Rattle.batch.specs.Promises.{RanOne, RanJobs};
 
 use listing::{answers, list};
-use refusal::{Answer, Later, Refusal};
+use refusal::{Later, Refusal, Refused};
 
 // "Take a list of up to 256 jobs"
 const MOST_JOBS: usize = 256;
@@ -19,7 +19,7 @@ fn run_one(
     source: &[u8],
     output: &mut [u8],
     scratch: &mut [u8],
-) -> Answer
+) -> Result<u64, Refused>
     requires { 8 * (k + 1) ≤ length jobs.now }
     ensures { RanOne tickets.now source.now (listed_at jobs.now k)
         (trays output.old scratch.old) (trays output.new scratch.new) result }
@@ -45,11 +45,9 @@ fn run_jobs(
         output.old scratch.old)
         answers.old (trays output.new scratch.new) answers.new }
 {
-    let mut k: usize = 0;
-    while k < count {
+    for k in 0..count {
         let a = run_one(jobs, k, tickets, source, output, scratch);
         answers::put(a, k, answers);
-        k += 1;
     }
 }
 
@@ -63,7 +61,7 @@ pub fn run(
     output: &mut [u8],
     scratch: &mut [u8],
     answers: &mut [u64],
-) -> Answer
+) -> Result<u64, Refused>
     ensures answered { result ≡ list_answer count (length jobs.now) (length answers.old) }
     ensures written { output.new ≡ list_output_after count
         (lent jobs.now tickets.now source.now
@@ -78,18 +76,28 @@ pub fn run(
         output.old scratch.old)
         answers.old }
 {
+    let short = Refusal::Later(Later::NumbersTooFew);
     if answers.len() < answers::ANSWERS {
-        return Answer::Refused(Refusal::Later(Later::NumbersTooFew), answers::ANSWERS);
+        return Err(Refused {
+            refusal: short,
+            at: answers::ANSWERS,
+        });
     }
     if count > MOST_JOBS {
         answers::clear(answers);
-        return Answer::Refused(Refusal::Later(Later::TooManyJobs), 0);
+        return Err(Refused {
+            refusal: Refusal::Later(Later::TooManyJobs),
+            at: 0,
+        });
     }
     let needed = list::JOB_NUMBERS * count;
     if jobs.len() < needed {
-        return Answer::Refused(Refusal::Later(Later::NumbersTooFew), needed);
+        return Err(Refused {
+            refusal: short,
+            at: needed,
+        });
     }
     answers::clear(answers);
     run_jobs(count, jobs, tickets, source, output, scratch, answers);
-    Answer::Done(0)
+    Ok(0)
 }

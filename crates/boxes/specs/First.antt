@@ -1,12 +1,16 @@
 -- The first of some boxes that answers a question: "14 over the boxes in order".
 -- The laws are what a caller may rely on.
 -- Assumes nothing.
-use Rattle.std.specs.Prelude.{◌≡◌, Bool, true, false, ◌||◌, cond, ℕ, zero, suc, ◌≤◌, ◌<◌, length, get_or, ltb}
+use Rattle.std.specs.Prelude.{◌≡◌, Bool, true, false, ◌||◌, cond, ℕ, zero, suc, ◌+◌, ◌≤◌, ◌<◌, length, get_or}
+use Rattle.std.specs.Prelude.{ltb, Some, None, is_some, position}
 use Rattle.std.proofs.Math.Path.{refl}
-use Rattle.std.proofs.Common.{sym, ap, ◌∙◌, true≢false, lt-ltb, le-ltb}
+use Rattle.std.proofs.Common.{sym, ap, ◌∙◌, true≢false, lt-ltb, le-ltb, ltb-true}
 use mathlib.Core.List.{List, [], ◌∷◌}
 use Rattle.std.proofs.Math.Logic.{by_cases}
 use Rattle.std.proofs.Math.Decide.{dec_lt}
+use Rattle.std.specs.List.{position_or_len}
+use Rattle.std.proofs.lemmas.Bool.{ltb-false}
+use Rattle.std.proofs.lemmas.List.Recursion.{is_position_or_len}
 use native.Mathlib.Omega.{arith}
 use Rattle.ticket.specs.declared.HiddenBox.{HiddenBox}
 use Rattle.boxes.specs.Boxes.{covers, hidden}
@@ -15,6 +19,14 @@ use Rattle.boxes.specs.Boxes.{covers, hidden}
 unfoldable pub first_of : (HiddenBox → Bool) → List HiddenBox → ℕ
 first_of asked [] = 0
 first_of asked (b ∷ boxes) = cond (asked b) 0 (suc (first_of asked boxes))
+
+some_case : (below : Bool) (k i : ℕ) → cond below (Some k) None ≡ Some i → (below ≡ true) × (k ≡ i)
+some_case true k i e = (refl, cc)
+some_case false k i e = (cc, cc)
+
+none_case : (below : Bool) (k : ℕ) → cond below (Some k) None ≡ None → below ≡ false
+none_case true k e = cc
+none_case false k e = refl
 
 module _ (asked : HiddenBox → Bool) where
   at_most_case : (n m : ℕ) (here : Bool) → n ≤ m → cond here 0 (suc n) ≤ suc m
@@ -79,6 +91,28 @@ module _ (asked : HiddenBox → Bool) where
       in
       omega (arith, apart)
 
+  -- the number that a search gives is the first one's, and where it gives none no box answers
+  first_position : (boxes : List HiddenBox) → first_of asked boxes ≡ position_or_len asked boxes
+  unfolding first_of
+  first_position =
+      is_position_or_len (first_of asked) asked refl
+      (λ b boxes.
+      let one : suc (first_of asked boxes) ≡ 1 + first_of asked boxes = omega arith in
+      ap (cond (asked b) 0) one)
+
+  pub found_some : (boxes : List HiddenBox) (i : ℕ) → position asked boxes ≡ Some i
+      → (first_of asked boxes ≡ i) × (i < length boxes)
+  found_some boxes i e =
+      let at = position_or_len asked boxes in
+      let found = some_case (ltb at (length boxes)) at i e in
+      (first_position boxes ∙ found.1, omega (arith, found.1, ltb-true at (length boxes) found.0))
+
+  pub found_none : (boxes : List HiddenBox) → position asked boxes ≡ None → first_of asked boxes ≡ length boxes
+  found_none boxes e =
+      let at = position_or_len asked boxes in
+      let over = none_case (ltb at (length boxes)) at e in
+      omega (arith, first_position boxes, first_at_most boxes, ltb-false at (length boxes) over)
+
 next_below : (m n : ℕ) → ltb m n ≡ ltb (suc m) (suc n)
 next_below m n =
     by_cases (dec_lt m n)
@@ -99,3 +133,14 @@ hidden_first [] c r = sym (le-ltb 0 0 (omega arith))
 hidden_first (b ∷ boxes) c r =
     hidden_case (first_of (λ (x : HiddenBox). covers x c r) boxes) (length boxes) (covers b c r) (hidden boxes c r)
     (hidden_first boxes c r)
+
+is_some_case : (below : Bool) (k : ℕ) → is_some (cond below (Some k) None) ≡ below
+is_some_case true k = refl
+is_some_case false k = refl
+
+pub hidden_found : (boxes : List HiddenBox) (c r : ℕ)
+    → is_some (position (λ (b : HiddenBox). covers b c r) boxes) ≡ hidden boxes c r
+hidden_found boxes c r =
+    is_some_case _ _
+    ∙ ap (λ (k : ℕ). ltb k (length boxes)) (sym (first_position (λ (b : HiddenBox). covers b c r) boxes))
+    ∙ sym (hidden_first boxes c r)

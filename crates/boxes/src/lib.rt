@@ -4,9 +4,8 @@
 // tests on a box's four numbers.
 #![tactic(auto)]
 
-ghost use Rattle.std.specs.Prelude.{◌≡◌, ◌+◌, ◌≤◌, ◌&&◌, leb, ltb, take, length};
+ghost use Rattle.std.specs.Prelude.{◌≡◌, ◌+◌, ◌≤◌, ◌&&◌, leb, ltb, take, length, position};
 ghost use Rattle.boxes.specs.Boxes.{covers, hidden, boxes_of, box_allowed, answers};
-ghost use Rattle.boxes.specs.First.{first_of};
 ghost use Rattle.ticket.specs.declared.HiddenBox.{HiddenBox};
 
 use ticket::{HiddenBox, Ticket};
@@ -26,6 +25,7 @@ pub fn lies_in(start: usize, size: usize, c: usize) -> bool
 }
 
 // Whether the box of these four numbers covers the pixel at column c, row r.
+// Stays: four numbers, not a HiddenBox: the law wants "a covered test on four numbers" below the one lent list.
 pub fn covers_numbers(
     left: usize,
     top: usize,
@@ -46,20 +46,14 @@ pub fn side_fits(from: usize, length: usize, side: usize) -> bool
     length <= side && from <= side - length
 }
 
-fn both(a: bool, b: bool) -> bool
-    ensures { result ≡ a && b }
-{
-    a && b
-}
-
 // Whether a box has no zero side and lies on the page.
 pub fn box_allowed(width: usize, height: usize, b: HiddenBox) -> bool
     ensures { result ≡ box_allowed width height b }
 {
-    let some = both(1 <= b.width, 1 <= b.height);
+    let some = 1 <= b.width && 1 <= b.height;
     let across = side_fits(b.left, b.width, width);
     let down = side_fits(b.top, b.height, height);
-    both(some, both(across, down))
+    some && across && down
 }
 
 // Whether a box answers a question with yes.
@@ -74,24 +68,18 @@ pub fn answers(q: Question, b: HiddenBox) -> bool
     }
 }
 
-// The number of the first of the lent boxes that answers, or how many there are where none does.
-pub fn first(boxes: &[HiddenBox], q: Question) -> usize
-    ensures { result ≡ first_of (answers q) boxes.now }
+// The number of the first of the lent boxes that answers, if one does.
+pub fn first(boxes: &[HiddenBox], q: Question) -> Option<usize>
+    ensures { result ≡ position (answers q) boxes.now }
 {
-    let mut k: usize = 0;
-    while k < boxes.len() {
-        if answers(q, boxes[k]) {
-            return k;
-        }
-        k += 1;
-    }
-    k
+    boxes.iter().position(|b| answers(q, *b))
 }
 
 // The same of the first count boxes of an array: the array's front is lent.
-pub fn first_of(boxes: [HiddenBox; 64], count: usize, q: Question) -> usize
+// Stays: an array and its count, not a slice: `boxes_of` cuts a ticket's 64 places so, and `empty_places_asked` turns it.
+pub fn first_of(boxes: [HiddenBox; 64], count: usize, q: Question) -> Option<usize>
     requires { count ≤ 64 }
-    ensures { (result ≡ first_of (answers q) (take count boxes)) × (length (take count boxes) ≡ count) }
+    ensures { (result ≡ position (answers q) (take count boxes)) × (length (take count boxes) ≡ count) }
 {
     first(&boxes[..count], q)
 }
@@ -101,16 +89,14 @@ pub fn hides(t: Ticket, c: usize, r: usize) -> bool
     requires { t.count ≤ 64 }
     ensures { result ≡ hidden (boxes_of t) c r }
 {
-    let boxes = t.boxes;
-    let found = first_of(boxes, t.count, Question::Holds { column: c, row: r });
-    found < t.count
+    let found = first_of(t.boxes, t.count, Question::Holds { column: c, row: r });
+    found.is_some()
 }
 
-// The number of the first of a ticket's boxes that is not allowed on the page, or how many boxes there are.
-pub fn first_refused(t: Ticket, width: usize, height: usize) -> usize
+// The number of the first of a ticket's boxes that is not allowed on the page, if there is one.
+pub fn first_refused(t: Ticket, width: usize, height: usize) -> Option<usize>
     requires { t.count ≤ 64 }
-    ensures { result ≡ first_of (answers (Question.NotAllowed width height)) (boxes_of t) }
+    ensures { result ≡ position (answers (Question.NotAllowed width height)) (boxes_of t) }
 {
-    let boxes = t.boxes;
-    first_of(boxes, t.count, Question::NotAllowed { width, height })
+    first_of(t.boxes, t.count, Question::NotAllowed { width, height })
 }

@@ -1,6 +1,4 @@
 // Tickets, from their fields.
-ghost use Rattle.std.specs.Prelude.{◌<◌};
-
 // How many bytes of a form make a ticket with no box, with a box over the middle of a row of three, and an empty one.
 pub const BARE: usize = 30;
 
@@ -8,10 +6,26 @@ pub const BOXED: usize = 41;
 
 pub const EMPTY: usize = 0;
 
+// The operations, by their numbers in a ticket.
+#[derive(Clone, Copy)]
+pub enum Operation {
+    Erode = 1,
+    Dilate = 2,
+    Open = 3,
+    Close = 4,
+}
+
+// The kinds of lines, by theirs.
+#[derive(Clone, Copy)]
+enum Kind {
+    Connected = 1,
+    Periodic = 2,
+}
+
 // A component of the vector is two bytes: dx is below 256 and has no upper one.
 #[derive(Clone, Copy)]
 pub struct Line {
-    kind: u8,
+    kind: Kind,
     dx: u8,
     dy_upper: u8,
     dy: u8,
@@ -20,7 +34,7 @@ pub struct Line {
 
 pub fn connected(dx: u8, dy: u8, phase: u8) -> Line {
     Line {
-        kind: 1,
+        kind: Kind::Connected,
         dx,
         dy_upper: 0,
         dy,
@@ -31,7 +45,7 @@ pub fn connected(dx: u8, dy: u8, phase: u8) -> Line {
 // The connected line (dx, -1), in two's complement.
 pub fn falling_by_one(dx: u8) -> Line {
     Line {
-        kind: 1,
+        kind: Kind::Connected,
         dx,
         dy_upper: 255,
         dy: 255,
@@ -41,7 +55,7 @@ pub fn falling_by_one(dx: u8) -> Line {
 
 pub fn periodic(dx: u8, dy: u8) -> Line {
     Line {
-        kind: 2,
+        kind: Kind::Periodic,
         dx,
         dy_upper: 0,
         dy,
@@ -61,17 +75,16 @@ fn blank() -> [u8; 41] {
 }
 
 // A filled form, of which a case takes the bytes it wants.
-pub fn ticket(operation: u8, line: Line, length: usize, origin: u8) -> [u8; 41]
-    requires { length < 65536 }
-{
+pub fn ticket(operation: Operation, line: Line, length: u16, origin: u8) -> [u8; 41] {
     let mut bytes = blank();
-    bytes[3] = operation;
-    bytes[7] = line.kind;
+    bytes[3] = operation as u8;
+    bytes[7] = line.kind as u8;
     bytes[12] = line.dx;
     bytes[13] = line.dy_upper;
     bytes[14] = line.dy;
-    bytes[18] = (length / 256) as u8;
-    bytes[19] = (length % 256) as u8;
+    let [upper, lower] = length.to_be_bytes();
+    bytes[18] = upper;
+    bytes[19] = lower;
     bytes[24] = origin;
     bytes[29] = line.phase;
     bytes

@@ -11,19 +11,9 @@ mod text;
 
 ghost use Rattle.std.specs.Prelude.{◌≤◌};
 
-use form::ticket;
+use form::{Operation, ticket};
 use placement::{Placements, Spot};
-use refusal::report;
 use std::io;
-
-// Operations by their numbers in a ticket.
-const ERODE: u8 = 1;
-
-const DILATE: u8 = 2;
-
-const OPEN: u8 = 3;
-
-const CLOSE: u8 = 4;
 
 // Runs the job of a ticket's first bytes on a page of rows of three pixels, which fills its output tray, and prints
 // the answer.
@@ -39,24 +29,21 @@ fn run(
     requires { size ≤ 41 }
 {
     let mut scratch = [0u8; 27];
+    let whole = Spot {
+        offset: 0,
+        stride: 3,
+    };
     let placements = Placements {
         width: 3,
         height,
-        source: Spot {
-            offset: 0,
-            stride: 3,
-        },
-        output: Spot {
-            offset: 0,
-            stride: 3,
-        },
+        source: whole,
+        output: whole,
     };
     let answer = job::job::run(&bytes[..size], placements, source, output, &mut scratch);
     text::print_name(rt, name)?;
-    if report::is_done(answer) {
-        text::print_done(rt, report::work(answer), output)
-    } else {
-        text::print_refused(rt, report::number(answer), report::place(answer))
+    match answer {
+        Ok(work) => text::print_done(rt, work, output),
+        Err(refused) => println!(rt; ": {refused}"),
     }
 }
 
@@ -95,29 +82,41 @@ fn short_tray(rt: &impl Print, name: &str, bytes: [u8; 41]) -> io::Result<()> {
 
 fn cases_on_the_row(rt: &impl Print) -> io::Result<()> {
     let level = form::level();
-    plain(rt, "1", ticket(ERODE, level, 2, 0))?;
-    plain(rt, "2", ticket(DILATE, level, 2, 0))?;
-    plain(rt, "3", ticket(OPEN, level, 2, 0))?;
-    plain(rt, "4", ticket(CLOSE, level, 2, 0))?;
-    plain(rt, "5", ticket(OPEN, level, 2, 1))?;
-    plain(rt, "6 erode", ticket(ERODE, level, 1, 0))?;
-    plain(rt, "6 dilate", ticket(DILATE, level, 1, 0))?;
-    plain(rt, "6 open", ticket(OPEN, level, 1, 0))?;
-    plain(rt, "6 close", ticket(CLOSE, level, 1, 0))?;
-    plain(rt, "7", ticket(ERODE, level, 8192, 0))?;
-    row(rt, "8", ticket(OPEN, level, 2, 0), form::BOXED)?;
-    row(rt, "9", ticket(OPEN, level, 3, 0), form::BOXED)?;
-    row(rt, "10", ticket(ERODE, level, 2, 0), form::EMPTY)
+    plain(rt, "1", ticket(Operation::Erode, level, 2, 0))?;
+    plain(rt, "2", ticket(Operation::Dilate, level, 2, 0))?;
+    plain(rt, "3", ticket(Operation::Open, level, 2, 0))?;
+    plain(rt, "4", ticket(Operation::Close, level, 2, 0))?;
+    plain(rt, "5", ticket(Operation::Open, level, 2, 1))?;
+    plain(rt, "6 erode", ticket(Operation::Erode, level, 1, 0))?;
+    plain(rt, "6 dilate", ticket(Operation::Dilate, level, 1, 0))?;
+    plain(rt, "6 open", ticket(Operation::Open, level, 1, 0))?;
+    plain(rt, "6 close", ticket(Operation::Close, level, 1, 0))?;
+    plain(rt, "7", ticket(Operation::Erode, level, 8192, 0))?;
+    row(rt, "8", ticket(Operation::Open, level, 2, 0), form::BOXED)?;
+    row(rt, "9", ticket(Operation::Open, level, 3, 0), form::BOXED)?;
+    row(rt, "10", ticket(Operation::Erode, level, 2, 0), form::EMPTY)
 }
 
 fn cases_on_the_square(rt: &impl Print) -> io::Result<()> {
-    square(rt, "11", ticket(ERODE, form::periodic(1, 1), 3, 1))?;
-    square(rt, "12", ticket(DILATE, form::connected(2, 1, 0), 2, 1))?;
-    square(rt, "13", ticket(DILATE, form::connected(2, 1, 1), 2, 1))?;
+    square(
+        rt,
+        "11",
+        ticket(Operation::Erode, form::periodic(1, 1), 3, 1),
+    )?;
+    square(
+        rt,
+        "12",
+        ticket(Operation::Dilate, form::connected(2, 1, 0), 2, 1),
+    )?;
+    square(
+        rt,
+        "13",
+        ticket(Operation::Dilate, form::connected(2, 1, 1), 2, 1),
+    )?;
     flipped_square(
         rt,
         "12 flipped",
-        ticket(DILATE, form::falling_by_one(2), 2, 1),
+        ticket(Operation::Dilate, form::falling_by_one(2), 2, 1),
     )
 }
 
@@ -126,22 +125,26 @@ fn cases_at_the_limits(rt: &impl Print) -> io::Result<()> {
     plain(
         rt,
         "14 connected (2, 2)",
-        ticket(ERODE, form::connected(2, 2, 0), 2, 0),
+        ticket(Operation::Erode, form::connected(2, 2, 0), 2, 0),
     )?;
     plain(
         rt,
         "14 periodic (2, 2)",
-        ticket(ERODE, form::periodic(2, 2), 2, 0),
+        ticket(Operation::Erode, form::periodic(2, 2), 2, 0),
     )?;
     plain(
         rt,
         "14 vector (0, 0)",
-        ticket(ERODE, form::connected(0, 0, 0), 2, 0),
+        ticket(Operation::Erode, form::connected(0, 0, 0), 2, 0),
     )?;
-    plain(rt, "15 L 8192", ticket(ERODE, level, 8192, 0))?;
-    plain(rt, "15 L 8193", ticket(ERODE, level, 8193, 0))?;
-    plain(rt, "15 o = L", ticket(ERODE, level, 2, 2))?;
-    short_tray(rt, "15 tray a byte short", ticket(ERODE, level, 2, 0))
+    plain(rt, "15 L 8192", ticket(Operation::Erode, level, 8192, 0))?;
+    plain(rt, "15 L 8193", ticket(Operation::Erode, level, 8193, 0))?;
+    plain(rt, "15 o = L", ticket(Operation::Erode, level, 2, 2))?;
+    short_tray(
+        rt,
+        "15 tray a byte short",
+        ticket(Operation::Erode, level, 2, 0),
+    )
 }
 
 fn main(rt: HostRuntime) -> io::Result<()> {

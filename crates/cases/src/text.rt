@@ -5,10 +5,6 @@ pub fn print_name(rt: &impl Print, name: &str) -> io::Result<()> {
     print!(rt; "case {name}")
 }
 
-pub fn print_refused(rt: &impl Print, number: usize, place: usize) -> io::Result<()> {
-    println!(rt; ": refused {number} at {place}")
-}
-
 // The pixel at an index of the page, and what parts it from the one before: rows have three pixels.
 fn print_pixel(rt: &impl Print, index: usize, pixel: u8) -> io::Result<()> {
     if index == 3 || index == 6 {

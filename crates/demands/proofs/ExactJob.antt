@@ -2,10 +2,10 @@
 -- pages that differ in one pixel are answered alike.
 -- Assumes nothing.
 use mathlib.Core.Path.{◌≡◌, sym, ap, ◌∙◌}
+use Rattle.refusal.specs.Answer.{done_with}
 use mathlib.Core.List.{List}
 use Prim.Native.Nat.{ℕ, ◌<◌}
 use lib.ListN.{length}
-use Rattle.refusal.specs.declared.Answer.TheVariants.{Done}
 use Rattle.ticket.specs.Reading.{shown}
 use Rattle.placement.specs.Placement.{pixel_in, source_page, output_page}
 use Rattle.placement.specs.declared.Placements.{Placements}
@@ -17,7 +17,7 @@ use Rattle.demands.specs.Exact.{ExactJobReach}
 use Rattle.demands.proofs.Same.{same_lengths}
 use Rattle.demands.proofs.Exact.{exact_reach}
 
-module _ (ticket : List ℕ) (p : Placements) (n : Lengths) (work c r : ℕ) (done : answer ticket p n ≡ Done work)
+module _ (ticket : List ℕ) (p : Placements) (n : Lengths) (work c r : ℕ) (done : answer ticket p n ≡ done_with work)
     (c_in : c < p.width) (r_in : r < p.height) where
   -- a job with trays of these lengths puts out the finished page
   output_at :
@@ -25,7 +25,7 @@ module _ (ticket : List ℕ) (p : Placements) (n : Lengths) (work c r : ℕ) (do
       → pixel_in (output_after ticket p source out scratch) (output_page p) c r
       ≡ finished (shown ticket) (source_page p) source c r
   output_at source out scratch s o x =
-      let also : answer ticket p (lengths source out scratch) ≡ Done work =
+      let also : answer ticket p (lengths source out scratch) ≡ done_with work =
       ap (answer ticket p) (same_lengths (lengths source out scratch) n s o x) ∙ done in
       output_pixel ticket p source out scratch work also c r c_in r_in
 

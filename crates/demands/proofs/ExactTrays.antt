@@ -23,6 +23,7 @@ use Rattle.placement.specs.declared.Placement.{Placement}
 use Rattle.tray.specs.Turned.{down_of, across_of}
 use Rattle.tray.specs.Written.{written}
 use Rattle.tray.specs.Laws.{length_written, written_at, written_pixel}
+use Rattle.ticket.specs.declared.Operation.{Operation}
 use Rattle.filter.specs.Seen.{View, runs_steep}
 use Rattle.filter.specs.Axes.{turned_back, down_back, across_back}
 use Rattle.filter.specs.Filters.{value_at, on_line, pass, eroded, dilation_back, dilated, opened, closed, operated}
@@ -58,7 +59,7 @@ passes t ok (inl e) =
       a = t.origin;
       b = t.length - 1 - t.origin;
       sizes = omega (arith, ok.origin_below);
-      made = λ page. ap (λ (n : ℕ). operated n (segment_of t) page) e;
+      made = λ page. ap (λ (n : Operation). operated n (segment_of t) page) e;
     }
 passes t ok (inr e) =
     record {
@@ -66,7 +67,7 @@ passes t ok (inr e) =
       a = t.length - 1 - t.origin;
       b = t.origin;
       sizes = omega (arith, ok.origin_below);
-      made = λ page. ap (λ (n : ℕ). operated n (segment_of t) page) e;
+      made = λ page. ap (λ (n : Operation). operated n (segment_of t) page) e;
     }
 
 -- ---- the line through a clear pixel

@@ -2,6 +2,7 @@
 -- steps on the page, and each of the three matters to it: a job of the documents meets what the exact reach asks.
 -- Assumes nothing.
 use mathlib.Core.Path.{◌≡◌, refl}
+use Rattle.refusal.specs.Answer.{done_with}
 use mathlib.Core.Bool.{Bool, true, ◌&&◌, and-eq-true_iff}
 use mathlib.Core.Logic.{inl}
 use mathlib.Core.List.{List, [], ◌∷◌}
@@ -15,7 +16,6 @@ use Rattle.geometry.specs.Number.{within, in_page, count, behind, ahead}
 use Rattle.runs.specs.Block.{rightward, leftward, resulting}
 use Rattle.runs.specs.Scratch.{total}
 use Rattle.refusal.specs.Chain.{unless, ◌then◌}
-use Rattle.refusal.specs.declared.Answer.TheVariants.{Done}
 use Rattle.fields.specs.Fields.{byte_at, number_at, signed16, signed_at, operation_in, line_in, dx_in, dy_in, length_in}
 use Rattle.fields.specs.Fields.{origin_in, phase_in, field_end}
 use Rattle.fields.specs.Vectors.{divided, coprime, vector_allowed, phase_allowed}
@@ -26,7 +26,7 @@ use Rattle.ticket.specs.Judging.{judge_operation, judge_line, judge_vector, judg
 use Rattle.ticket.specs.Judging.{judged}
 use Rattle.ticket.specs.Judging as ticket
 use Rattle.ticket.specs.Laws.{Bytes}
-use Rattle.ticket.specs.Reading.{box_places, shown}
+use Rattle.ticket.specs.Reading.{kind_of, operation_of, periodic_kind, box_places, shown}
 use Rattle.boxes.specs.Boxes.{hidden, boxes_of, box_allowed}
 use Rattle.placement.specs.Placement.{side_allowed, allowed, fits, source_page, output_page, scratch_needed}
 use Rattle.placement.specs.declared.Placements.{Placements}
@@ -78,7 +78,7 @@ opening_bytes : Bytes opening
 unfolding small
 opening_bytes = small_bytes opening refl
 
-opening_done : answer opening row sizes ≡ Done 6
+opening_done : answer opening row sizes ≡ done_with 6
 unfolding answer job_work judge_places judge_sides judge_source judge_output judge_scratch judge_page_boxes judge_page_boxes_from unless
     ◌then◌ box_allowed source_page output_page side_allowed allowed fits scratch_needed pages_of work_of erosion_work
     dilation_work pass_work charged_at charged dilation_back runs_steep line_of segment_of boxes_of shallow steep major_of
@@ -86,14 +86,14 @@ unfolding answer job_work judge_places judge_sides judge_source judge_output jud
     leftward resulting total byte_at number_at signed16 signed_at operation_in line_in dx_in dy_in length_in origin_in phase_in
     field_end box_at boxes_from boxes_in judge_head judge_size judge_field operation_known line_known is_periodic divided coprime
     vector_allowed length_allowed origin_allowed phase_allowed judge_operation judge_line judge_vector judge_length judge_origin
-    judge_phase judge_box ticket.judge_boxes judged shown box_places
+    judge_phase judge_box ticket.judge_boxes judged operation_of kind_of periodic_kind shown box_places
 opening_done = refl
 
 -- the middle pixel stands at step 1
 middle_clear : Clear (shown opening) (source_page row) 1 0
 unfolding source_page runs_steep line_of boxes_of hidden steep major_of minor_of nearest D shift period profile place landing
     step_of major_at within in_page down_of across_of byte_at number_at signed16 signed_at operation_in line_in dx_in dy_in length_in
-    origin_in phase_in field_end box_at boxes_from boxes_in is_periodic shown box_places
+    origin_in phase_in field_end box_at boxes_from boxes_in periodic_kind operation_of kind_of shown box_places
 middle_clear =
     record {
       column = omega arith;
@@ -113,7 +113,7 @@ middle_clear =
 middle_near : (c : ℕ) → c < 3 → Near (shown opening) (source_page row) 1 0 c 0
 unfolding source_page runs_steep line_of boxes_of hidden steep major_of minor_of nearest D shift period profile place landing
     step_of major_at within in_page down_of across_of byte_at number_at signed16 signed_at operation_in line_in dx_in dy_in length_in
-    origin_in phase_in field_end box_at boxes_from boxes_in is_periodic shown box_places
+    origin_in phase_in field_end box_at boxes_from boxes_in periodic_kind operation_of kind_of shown box_places
 middle_near zero h =
     record {
       step = 0;
@@ -138,6 +138,6 @@ middle_near (suc (suc zero)) h =
 middle_near (suc (suc (suc c))) h = absurd (omega arith)
 
 pub middle_matters : (c : ℕ) → c < 3 → JobMatters opening row sizes 1 0 c 0
-unfolding byte_at number_at operation_in shown
+unfolding byte_at number_at operation_in operation_of kind_of shown
 middle_matters c h =
     exact_job_reach opening row sizes 6 1 0 opening_bytes opening_done (inl refl) middle_clear c 0 (middle_near c h)

@@ -5,10 +5,10 @@ use mathlib.Core.List.{List}
 use Prim.Native.Nat.{ℕ, ◌*◌, ◌≤◌, ◌<◌}
 use native.Mathlib.Omega.{arith}
 use lib.ListN.{length, get_or}
-use Rattle.refusal.specs.Answer.{is_done, when_done}
-use Rattle.refusal.specs.Chain.{◌then◌, then_on, when_done_lem, when_refused}
-use Rattle.refusal.specs.declared.Answer.{Answer}
-use Rattle.refusal.specs.declared.Answer.TheVariants.{Done}
+use Rattle.std.specs.Prelude.{Result}
+use Rattle.refusal.specs.Answer.{is_done, work_in, Answer, done_with}
+use Rattle.refusal.specs.Chain.{◌then◌, then_on, when_refused, giving_on}
+use Rattle.refusal.specs.declared.Refused.{Refused}
 use Rattle.ticket.specs.Judging as tickets
 use Rattle.ticket.specs.Reading.{shown}
 use Rattle.placement.specs.Placement.{pixel_in, source_page}
@@ -20,10 +20,11 @@ use Rattle.job.specs.Job.{finished_with, job_work, lengths}
 use Rattle.judging.specs.Pages.{job_scratch}
 use Rattle.judging.specs.Judging.{judge_places}
 use Rattle.judging.specs.declared.Lengths.{Lengths}
-use Rattle.file.specs.FileJob.{header, file_page, file_answer, delivery, file_output_after, file_scratch_after}
+use Rattle.file.specs.FileJob.{header, file_page, file_answer, with_length, length_in, delivery, file_output_after}
+use Rattle.file.specs.FileJob.{file_scratch_after}
 use Rattle.file.proofs.Laws as files
 use Rattle.file.specs.Places.{places_of, file_length}
-use Rattle.file.specs.declared.Delivery.{Delivery}
+use Rattle.file.specs.declared.Finished.{Finished}
 use Rattle.demands.specs.Files.{source_of, SameRead, FileRefusedOutput, FileRefusedScratch}
 use Rattle.demands.specs.Files.{FileRefusedWork, FileOutputKept, FileOutputLength, FileScratchZero}
 use Rattle.demands.specs.Files.{FileScratchKept, FileScratchLength}
@@ -62,12 +63,12 @@ file_output_length ticket file out scratch =
     ∙ files.output_length ticket file out scratch work e)
 
 pub file_output_kept : FileOutputKept
-unfolding file_output_after delivery is_done
+unfolding file_output_after delivery with_length length_in is_done
 file_output_kept ticket file out scratch i past =
     let given : Answer = file_answer ticket file (lengths file out scratch) in
     when_either (λ (tray : List ℕ). get_or tray i 0 ≡ get_or out i 0) given _ out refl
     (λ work e.
-    let told = when_done_lem given (file_length (header file)) 0 (ap is_done e) in
+    let told = ap length_in (giving_on given (record { work = work_in given; length = file_length (header file) }) (ap is_done e)) in
     ap (λ (tray : List ℕ). get_or tray i 0) (sym (files.output_is ticket file out scratch work e))
     ∙ files.file_rest ticket file out scratch work e i (omega (arith, past, told)))
 
@@ -135,7 +136,7 @@ same_answer ticket file file' n n' read same =
     (then_on (judged file) _ read.one
     ∙ ap₂
     (λ (h : Header) (m : Lengths).
-    judge_places (shown ticket) (places_of h) m then Done (job_work (shown ticket) h.width h.height))
+    judge_places (shown ticket) (places_of h) m then done_with (job_work (shown ticket) h.width h.height))
     read.headers
     same
     ∙ sym (then_on (judged file') _ read.two))
@@ -152,8 +153,7 @@ module _ (ticket file file' out out' scratch scratch' : List ℕ) (read : SameRe
 pub file_same : FileSame
 unfolding delivery
 file_same ticket file file' out out' scratch scratch' read same =
-    ap₂ {C = Delivery}
-    (λ (a : Answer) (h : Header). record { answer = a; length = when_done a (file_length h) 0 })
+    ap₂ {C = Result Finished Refused} (λ (a : Answer) (h : Header). with_length a (file_length h))
     (answers ticket file file' out out' scratch scratch' read same)
     read.headers
 

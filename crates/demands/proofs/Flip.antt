@@ -11,6 +11,7 @@ use native.Mathlib.Omega.{arith}
 use Rattle.geometry.specs.Drift.{mirrored}
 use Rattle.geometry.proofs.Laws.{mirrored_below, mirrored_rising}
 use Rattle.ticket.specs.Laws.{Allowed}
+use Rattle.ticket.specs.declared.Operation.{Operation}
 use Rattle.ticket.specs.declared.HiddenBox.{HiddenBox}
 use Rattle.ticket.specs.declared.Ticket.{Ticket}
 use Rattle.boxes.specs.Boxes.{hidden, boxes_of}
@@ -122,7 +123,7 @@ Flips s w h page page' =
     Mirrors (down_of steep w h) (across_of steep w h) (turned steep page) (turned steep page')
 
 filtered_flipped :
-    (n : ℕ) (s : Segment) → Runs s.line → (w h : ℕ) (page page' : View) → Flips s w h page page'
+    (n : Operation) (s : Segment) → Runs s.line → (w h : ℕ) (page page' : View) → Flips s w h page page'
     → (c r : ℕ) → c < w → r < h
     → filtered n (flipped_segment s) page' (mirrored (runs_steep s.line) w c)
     (mirrored (not (runs_steep s.line)) h r)

@@ -1,6 +1,7 @@
 -- The flip of a job and of a job on a file: the answer, the work and what they leave; and what a flipped ticket is.
 -- Assumes nothing.
 use mathlib.Core.Path.{◌≡◌, sym, ap, ap₂, subst, ◌∙◌}
+use Rattle.refusal.specs.Answer.{Answer, done_with}
 use mathlib.Core.Bool.{Bool, true, not, ◌||◌}
 use mathlib.Core.List.{List, map}
 use Prim.Native.Nat.{ℕ, ◌<◌}
@@ -13,10 +14,9 @@ use Rattle.geometry.proofs.Laws.{mirrored_below, flipped_runs, flipped_steep, fl
 use Rattle.geometry.proofs.Laws.{flipped_dx, flipped_dy, flipped_kind, flipped_phase}
 use Rattle.geometry.specs.declared.Line.{Line}
 use Rattle.refusal.specs.Chain.{◌then◌, then_on}
-use Rattle.refusal.specs.declared.Answer.{Answer}
-use Rattle.refusal.specs.declared.Answer.TheVariants.{Done}
 use Rattle.fields.specs.Vectors.{vector_allowed, phase_allowed}
-use Rattle.ticket.specs.Judging.{judged, is_periodic}
+use Rattle.ticket.specs.Judging.{judged}
+use Rattle.ticket.specs.Reading.{periodic_kind}
 use Rattle.ticket.specs.Laws.{Allowed, vector_passes, phase_passes, vector_by_sizes, phase_by_sizes}
 use Rattle.ticket.specs.Reading.{shown}
 use Rattle.ticket.specs.declared.HiddenBox.{HiddenBox}
@@ -58,9 +58,9 @@ flipped_answer ticket ticket' p n work bytes done read flip =
     let places : judge_places t' p n ≡ judge_places t p n =
     places_alike t t' p n (pages_by_operation t t' flip.operation) on
     (flipped_boxes t t' p.width p.height on flip) in
-    then_on (judged ticket') (judge_places t' p n then Done (job_work t' p.width p.height)) read
-    ∙ ap₂ (λ (judgement : Answer) (q : ℕ). judgement then Done q) places (works ∙ job.worked)
-    ∙ then_on (judge_places t p n) (Done work) job.placed
+    then_on (judged ticket') (judge_places t' p n then done_with (job_work t' p.width p.height)) read
+    ∙ ap₂ (λ (judgement : Answer) (q : ℕ). judgement then done_with q) places (works ∙ job.worked)
+    ∙ then_on (judge_places t p n) (done_with work) job.placed
 
 pub flipped_job : FlippedJob
 unfolding source_page
@@ -151,7 +151,7 @@ level_line t e = flipped_level (line_of t) e
 
 -- the line of a flipped ticket, number by number
 record Negated (t t' : Ticket) : Type 0 where
-  kind : is_periodic t'.line ≡ is_periodic t.line
+  kind : periodic_kind t'.line ≡ periodic_kind t.line
   runs : shallow t'.dx t'.dy || steep t'.dx t'.dy ≡ true
   dx : nat_abs t'.dx ≡ nat_abs t.dx
   dy : nat_abs t'.dy ≡ nat_abs t.dy
@@ -174,9 +174,9 @@ pub flipped_vector : FlippedVector
 flipped_vector t t' w h ok flip =
     let same = negated w h t t' ok flip in (
       ap (λ (kind : Bool). vector_allowed kind t'.dx t'.dy) same.kind
-          ∙ vector_by_sizes (is_periodic t.line) t.dx t.dy t'.dx t'.dy same.dx same.dy same.runs
+          ∙ vector_by_sizes (periodic_kind t.line) t.dx t.dy t'.dx t'.dy same.dx same.dy same.runs
           (vector_passes t ok),
       ap₂ (λ (kind : Bool) (i : ℕ). phase_allowed kind t'.dx t'.dy i) same.kind same.phase
-          ∙ phase_by_sizes (is_periodic t.line) t.dx t.dy t'.dx t'.dy same.dx same.dy t.phase
+          ∙ phase_by_sizes (periodic_kind t.line) t.dx t.dy t'.dx t'.dy same.dx same.dy t.phase
           ∙ phase_passes t ok,
     )

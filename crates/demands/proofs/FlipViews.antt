@@ -6,7 +6,7 @@ use mathlib.Core.Logic.{⊎_elim}
 use mathlib.Core.Option.{Option, none, some}
 use Prim.Native.Nat.{ℕ, suc, ◌+◌, ◌-◌, ◌<◌}
 use native.Mathlib.Omega.{arith}
-use lib.Dec.{leb, eqb}
+use lib.Dec.{leb}
 use Rattle.vectors.specs.Vector.{shallow, steep}
 use Rattle.geometry.specs.Line.{landing, step_of, major_at}
 use Rattle.geometry.specs.Number.{in_page}
@@ -16,9 +16,11 @@ use Rattle.geometry.proofs.Laws.{in_page_landing, out_of_page, flipped_steep, fl
 use Rattle.geometry.proofs.Laws.{flipped_major_at, flipped_landing, flipped_in_page, flipped_behind, flipped_ahead}
 use Rattle.geometry.specs.declared.Line.{Line}
 use Rattle.runs.specs.Scratch.{total}
+use Rattle.ticket.specs.declared.Operation.{Operation}
+use Rattle.ticket.specs.declared.Operation.TheVariants.{Erode, Dilate, Open, Close}
 use Rattle.filter.specs.Seen.{View, runs_steep}
 use Rattle.filter.specs.Filters.{extreme, value_at, on_line, in_window, pass_at, pass, eroded, dilation_back, dilated}
-use Rattle.filter.specs.Filters.{opened, closed, erosion, dilation, opening, closing, operated}
+use Rattle.filter.specs.Filters.{opened, closed, operated}
 use Rattle.filter.proofs.Absence.{pass_off}
 use Rattle.filter.specs.Sums.{total_same, total_mirrored}
 use Rattle.filter.specs.Work.{charged, charged_at, pass_work, erosion_work, dilation_work, work_of}
@@ -117,20 +119,6 @@ module _ (l : Line) (e : Runs l) (H W : ℕ) where
 
 -- ---- the four operations
 
-either_mirrors :
-    (H W : ℕ) (b : Bool) (one two one' two' : View) → Mirrors H W one one' → Mirrors H W two two'
-    → Mirrors H W (cond b one two) (cond b one' two')
-either_mirrors H W true one two one' two' h k = h
-either_mirrors H W false one two one' two' h k = k
-
-none_mirrors : (H W : ℕ) → Mirrors H W (λ (M m : ℕ). none) (λ (M m : ℕ). none)
-none_mirrors H W =
-    record {
-      off = record { below = λ M m h. refl; beside = λ M m h. refl };
-      off' = record { below = λ M m h. refl; beside = λ M m h. refl };
-      there = λ M m h. refl;
-    }
-
 module _ (s : Segment) (e : Runs s.line) where
   module _ (H W : ℕ) where
     eroded_mirrors :
@@ -145,30 +133,22 @@ module _ (s : Segment) (e : Runs s.line) where
         pass_mirrors s.line e H W false (dilation_back s) s.length page page' mirrors
 
     pub operated_mirrors :
-        (n : ℕ) (page page' : View) → Mirrors H W page page'
+        (n : Operation) (page page' : View) → Mirrors H W page page'
         → Mirrors H W (operated n s page) (operated n (flipped_segment s) page')
     unfolding operated opened closed
-    operated_mirrors n page page' mirrors =
-        let eroding = eroded_mirrors page page' mirrors in
-        let dilating = dilated_mirrors page page' mirrors in
-        either_mirrors H W (eqb n erosion) _ _ _ _ eroding
-        (either_mirrors H W (eqb n dilation) _ _ _ _ dilating
-        (either_mirrors H W (eqb n opening) _ _ _ _ (dilated_mirrors _ _ eroding)
-        (either_mirrors H W (eqb n closing) _ _ _ _ (eroded_mirrors _ _ dilating) (none_mirrors H W))))
+    operated_mirrors Erode page page' mirrors = eroded_mirrors page page' mirrors
+    operated_mirrors Dilate page page' mirrors = dilated_mirrors page page' mirrors
+    operated_mirrors Open page page' mirrors = dilated_mirrors _ _ (eroded_mirrors page page' mirrors)
+    operated_mirrors Close page page' mirrors = eroded_mirrors _ _ (dilated_mirrors page page' mirrors)
 
   pub steep_same : runs_steep (flipped s.line) ≡ runs_steep s.line
   unfolding runs_steep
   steep_same = flipped_steep s.line e
 
-  pub work_flipped : (n w h : ℕ) → work_of n (flipped_segment s) w h ≡ work_of n s w h
+  pub work_flipped : (n : Operation) (w h : ℕ) → work_of n (flipped_segment s) w h ≡ work_of n s w h
   unfolding work_of erosion_work dilation_work dilation_back
-  work_flipped n w h = ap₂ (λ (x y : ℕ). all x y) (same s.origin) (same (s.length - 1 - s.origin))
+  work_flipped n w h = by n
     where
-      all : ℕ → ℕ → ℕ
-      all x y =
-          cond (eqb n erosion) x
-          (cond (eqb n dilation) y (cond (eqb n opening) (x + y) (cond (eqb n closing) (y + x) 0)))
-
       same : (a : ℕ)
           → pass_work (flipped s.line) (cond (runs_steep (flipped s.line)) h w)
           (cond (runs_steep (flipped s.line)) w h) s.length a
@@ -178,3 +158,9 @@ module _ (s : Segment) (e : Runs s.line) where
           ∙ pass_work_flipped s.line e (cond (runs_steep s.line) h w) (cond (runs_steep s.line) w h)
           s.length
           a
+
+      by : (n : Operation) → work_of n (flipped_segment s) w h ≡ work_of n s w h
+      by Erode = same s.origin
+      by Dilate = same (s.length - 1 - s.origin)
+      by Open = ap₂ ◌+◌ (same s.origin) (same (s.length - 1 - s.origin))
+      by Close = ap₂ ◌+◌ (same (s.length - 1 - s.origin)) (same s.origin)

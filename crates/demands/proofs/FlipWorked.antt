@@ -2,12 +2,12 @@
 -- along (2, -1), with the box over those of its last row, the ticket is read, and is the flipped one.
 -- Assumes nothing.
 use mathlib.Core.Path.{◌≡◌, refl}
+use Rattle.refusal.specs.Answer.{done_with}
 use mathlib.Core.List.{List, [], ◌∷◌, ◌++◌, map}
 use Prim.Native.Nat.{ℕ}
 use Rattle.vectors.specs.Vector.{shallow, steep}
 use Rattle.geometry.specs.Flip.{flipped}
 use Rattle.refusal.specs.Chain.{unless, ◌then◌}
-use Rattle.refusal.specs.declared.Answer.TheVariants.{Done}
 use Rattle.fields.specs.Fields.{byte_at, number_at, signed16, signed_at, operation_in, line_in, dx_in, dy_in, length_in}
 use Rattle.fields.specs.Fields.{origin_in, phase_in, field_end}
 use Rattle.fields.specs.Vectors.{divided, coprime, vector_allowed, phase_allowed}
@@ -16,7 +16,7 @@ use Rattle.ticket.specs.Judging.{judge_head, judge_size, judge_field, operation_
 use Rattle.ticket.specs.Judging.{length_allowed, origin_allowed}
 use Rattle.ticket.specs.Judging.{judge_operation, judge_line, judge_vector, judge_length, judge_origin, judge_phase, judge_box}
 use Rattle.ticket.specs.Judging.{judge_boxes, judged}
-use Rattle.ticket.specs.Reading.{box_places, shown}
+use Rattle.ticket.specs.Reading.{kind_of, operation_of, periodic_kind, box_places, shown}
 use Rattle.boxes.specs.Boxes.{boxes_of}
 use Rattle.filter.specs.Seen.{runs_steep}
 use Rattle.job.specs.Order.{line_of}
@@ -35,7 +35,7 @@ rising = ticket (0 ∷ 1 ∷ []) 0
 abbrev falling : List ℕ
 falling = ticket (255 ∷ 255 ∷ []) 2
 
-both_read : map judged (rising ∷ falling ∷ []) ≡ Done 0 ∷ Done 0 ∷ []
+both_read : map judged (rising ∷ falling ∷ []) ≡ done_with 0 ∷ done_with 0 ∷ []
 unfolding unless ◌then◌ shallow steep byte_at number_at signed16 signed_at operation_in line_in dx_in dy_in length_in origin_in
     phase_in field_end judge_head judge_size judge_field operation_known line_known is_periodic divided coprime vector_allowed
     length_allowed origin_allowed phase_allowed judge_operation judge_line judge_vector judge_length judge_origin judge_phase
@@ -44,5 +44,5 @@ both_read = refl
 
 falling_flips_rising : FlippedTicket 3 3 (shown rising) (shown falling)
 unfolding steep flipped byte_at number_at signed16 signed_at operation_in line_in dx_in dy_in length_in origin_in phase_in
-    field_end box_at boxes_from boxes_in is_periodic box_places shown boxes_of runs_steep line_of flipped_box
+    field_end box_at boxes_from boxes_in periodic_kind box_places operation_of kind_of shown boxes_of runs_steep line_of flipped_box
 falling_flips_rising = record { operation = refl; line = refl; length = refl; origin = refl; boxes = refl }

@@ -1,16 +1,15 @@
 -- The demands on a whole tray in one call, lifted from the job's: each job of a list is a single call.
 -- Assumes nothing.
 use mathlib.Core.Path.{◌≡◌, refl, sym, ap, ap₂, ◌∙◌, subst}
+use Rattle.std.specs.Prelude.{Err, Ok}
 use mathlib.Core.Bool.{true, false≢true}
 use mathlib.Core.List.{List}
 use Prim.Native.Nat.{ℕ, zero, suc, ◌+◌, ◌-◌, ◌≤◌, ◌<◌}
 use native.Mathlib.Nat.{add-zero, add-suc}
 use native.Mathlib.Omega.{arith}
 use lib.ListN.{length, get_or}
-use Rattle.refusal.specs.Answer.{work_in, is_done, when_done}
+use Rattle.refusal.specs.Answer.{work_in, is_done, when_done, Answer, done_with}
 use Rattle.refusal.specs.Chain.{when_done_lem, when_refused}
-use Rattle.refusal.specs.declared.Answer.{Answer}
-use Rattle.refusal.specs.declared.Answer.TheVariants.{Done, Refused}
 use Rattle.ticket.specs.Reading.{shown}
 use Rattle.placement.specs.Placement.{pixel_in, byte_of, source_page, output_page}
 use Rattle.placement.specs.declared.Placements.{Placements}
@@ -35,10 +34,10 @@ use Rattle.demands.proofs.ExactJob.{exact_job_reach}
 
 -- ---- single calls
 
-done_with : (a : Answer) → is_done a ≡ true → a ≡ Done (work_in a)
+of_done : (a : Answer) → is_done a ≡ true → a ≡ done_with (work_in a)
 unfolding is_done work_in
-done_with (Done work) done = refl
-done_with (Refused refusal at) done = absurd (false≢true done)
+of_done (Ok work) done = refl
+of_done (Err refused) done = absurd (false≢true done)
 
 -- the trays keep their lengths
 module _ (l : Lent) where
@@ -80,11 +79,11 @@ module _ (l : Lent) (k : ℕ) where
   abbrev work : ℕ
   work = work_in (answer_at l k)
 
-  done_single : JobDone l k → answer ticket places (lengths l.source found.output found.scratch) ≡ Done work
+  done_single : JobDone l k → answer ticket places (lengths l.source found.output found.scratch) ≡ done_with work
   unfolding answer_at single_answer
-  done_single done = done_with (answer_at l k) done
+  done_single done = of_done (answer_at l k) done
 
-  single_done : (w : ℕ) → answer ticket places (lengths l.source found.output found.scratch) ≡ Done w
+  single_done : (w : ℕ) → answer ticket places (lengths l.source found.output found.scratch) ≡ done_with w
       → JobDone l k
   unfolding answer_at single_answer is_done
   single_done w e = ap is_done e
@@ -161,7 +160,7 @@ list_exact jobs tickets source out scratch k c r bytes done operation clear c' r
     let l : Lent = lent jobs tickets source out scratch in
     let x =
     exact_job_reach (ticket l k) (places l k) (lengths source out scratch) (work l k) c r
-    (ticket_bytes tickets (listed_at jobs k) bytes) (sym (list_single l k) ∙ done_with (answer_at l k) done) operation
+    (ticket_bytes tickets (listed_at jobs k) bytes) (sym (list_single l k) ∙ of_done (answer_at l k) done) operation
     clear
     c' r' near in
     let first : List ℕ → List ℕ → Lent = lent jobs tickets x.pages.one in

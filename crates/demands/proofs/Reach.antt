@@ -125,8 +125,8 @@ finished_hidden white t p source c r e =
     let l : Line = line_of t in
     finished_at t p source c r white
     ∙ ap (or_white white)
-    (operated_none t.operation (segment_of t) (along_in t p source) (major_place l c r) (minor_place l c r)
-    (turned_back (runs_steep l) (seen_in t p source) c r ∙ seen_none t p source c r e))
+    (operated_none (segment_of t) (along_in t p source) (major_place l c r) (minor_place l c r)
+    (turned_back (runs_steep l) (seen_in t p source) c r ∙ seen_none t p source c r e) t.operation)
 
 -- ---- the job
 

@@ -1,6 +1,7 @@
 -- What a job leaves alone: read off what its trays hold afterwards.
 -- Assumes nothing.
 use mathlib.Core.Path.{◌≡◌, refl, sym, ap, ◌∙◌}
+use Rattle.std.specs.Prelude.{Err, Ok}
 use mathlib.Core.Bool.{Bool, true, false}
 use mathlib.Core.Logic.{by_cases}
 use mathlib.Core.List.{List}
@@ -8,10 +9,8 @@ use Prim.Native.Nat.{ℕ, ◌≤◌}
 use native.Mathlib.Decide.{dec_lt}
 use native.Mathlib.Omega.{arith}
 use lib.ListN.{length, get_or}
-use Rattle.refusal.specs.Answer.{number_of, work_in, is_done, when_done}
+use Rattle.refusal.specs.Answer.{number_of, work_in, is_done, when_done, Answer, done_with}
 use Rattle.refusal.specs.Chain.{when_done_lem, when_refused}
-use Rattle.refusal.specs.declared.Answer.{Answer}
-use Rattle.refusal.specs.declared.Answer.TheVariants.{Done, Refused}
 use Rattle.ticket.specs.Reading.{shown}
 use Rattle.placement.specs.Placement.{inside, source_page, output_page}
 use Rattle.placement.proofs.Laws.{inside_pixel}
@@ -29,22 +28,22 @@ use Rattle.demands.specs.Untouched.{RefusedOutput, RefusedScratch, RefusedWork}
 
 -- what holds of a finished tray and of a kept one holds whatever the answer is
 pub when_either {ℓ} :
-    {X : Type ℓ} (P : X → Type 0) (a : Answer) (done kept : X) → P kept → ((work : ℕ) → a ≡ Done work → P done)
+    {X : Type ℓ} (P : X → Type 0) (a : Answer) (done kept : X) → P kept → ((work : ℕ) → a ≡ done_with work → P done)
     → P (when_done a done kept)
 unfolding when_done
-when_either P (Done work) done kept k d = d work refl
-when_either P (Refused refusal at) done kept k d = k
+when_either P (Ok work) done kept k d = d work refl
+when_either P (Err refused) done kept k d = k
 
 -- an answer with a refusal's number is not done, and has no work
 pub not_done : (a : Answer) → (number_of a ≡ 0 → ⊥) → is_done a ≡ false
 unfolding number_of is_done
-not_done (Done work) refused = absurd (refused refl)
-not_done (Refused refusal at) refused = refl
+not_done (Ok work) refused = absurd (refused refl)
+not_done (Err other) refused = refl
 
 pub no_work : (a : Answer) → (number_of a ≡ 0 → ⊥) → work_in a ≡ 0
 unfolding number_of work_in
-no_work (Done work) refused = absurd (refused refl)
-no_work (Refused refusal at) refused = refl
+no_work (Ok work) refused = absurd (refused refl)
+no_work (Err other) refused = refl
 
 -- ---- the trays
 
@@ -59,7 +58,7 @@ off_page p i off = by_place (inside p i) refl
 -- a byte that is off the page if there is a finished one
 pub output_kept_if :
     (ticket : List ℕ) (p : Placements) (source out scratch : List ℕ) (i : ℕ)
-    → ((work : ℕ) → answer ticket p (lengths source out scratch) ≡ Done work → OffPage (output_page p) i)
+    → ((work : ℕ) → answer ticket p (lengths source out scratch) ≡ done_with work → OffPage (output_page p) i)
     → get_or (output_after ticket p source out scratch) i 0 ≡ get_or out i 0
 unfolding output_after
 output_kept_if ticket p source out scratch i off =
@@ -81,7 +80,7 @@ output_length ticket p source out scratch =
 -- a byte that is past what is used if there is a finished page
 pub scratch_kept_if :
     (ticket : List ℕ) (p : Placements) (source out scratch : List ℕ) (i : ℕ)
-    → ((work : ℕ) → answer ticket p (lengths source out scratch) ≡ Done work → job_scratch (shown ticket) p ≤ i)
+    → ((work : ℕ) → answer ticket p (lengths source out scratch) ≡ done_with work → job_scratch (shown ticket) p ≤ i)
     → get_or (scratch_after ticket p source out scratch) i 0 ≡ get_or scratch i 0
 unfolding scratch_after
 scratch_kept_if ticket p source out scratch i past =

@@ -18,6 +18,7 @@ use Rattle.refusal.specs.Answer.{is_done}
 use Rattle.ticket.specs.Laws.{Allowed}
 use Rattle.ticket.specs.Reading.{shown}
 use Rattle.ticket.specs.declared.Ticket.{Ticket}
+use Rattle.ticket.specs.declared.Operation.{Operation}
 use Rattle.boxes.specs.Boxes.{hidden, boxes_of}
 use Rattle.placement.specs.Placement.{pixel_in, source_page}
 use Rattle.placement.specs.declared.Placement.{Placement}
@@ -39,6 +40,7 @@ use Rattle.why.proofs.Laws as laws
 use Rattle.why.specs.Named as named
 use Rattle.why.specs.Named.{Once, Twice, NamedStep, along_of, beside_of, first_seen}
 use Rattle.why.specs.Reason.{seen_by, by_steps}
+use Rattle.why.specs.Told.{reason_told}
 use Rattle.why.specs.declared.Reason.{Reason}
 use Rattle.demands.specs.Near.{major_place, minor_place}
 use Rattle.demands.specs.Why.{told_of, came_out, Gives, Names, ByOnePass, ByTwoPasses}
@@ -224,7 +226,7 @@ module _ (t : Ticket) (p : Placement) (tray : List ℕ) (c r : ℕ) where
       ∙ ap (λ (view : View). or_white white (view along beside)) (how.filter (segment_of t) (seen_by t p tray)))
 
 -- the same ticket that orders the first pass alone
-first_shows : (t : Ticket) (p : Placement) (tray : List ℕ) → Allowed t → (n : ℕ) (low : Bool) → Once n low
+first_shows : (t : Ticket) (p : Placement) (tray : List ℕ) → Allowed t → (n : Operation) (low : Bool) → Once n low
     → Shows t p (finished (ordering n t) p tray) (first_seen t low p tray)
 unfolding ordering segment_of line_of boxes_of seen_by
 first_shows t p tray ok n low how =
@@ -289,7 +291,7 @@ module _ (t : Ticket) (p : Placement) (tray : List ℕ) (ok : Allowed t) (at : P
       ∙ ap (λ (page : View). or_white white (page (major_place line c r) (minor_place line c r)))
       (how.filter (segment_of t) (seen_by t p tray))))
 
-  twice : Twice t.operation low → (n : ℕ) → Once n low
+  twice : Twice t.operation low → (n : Operation) → Once n low
       → ByTwoPasses t p (pixel_in tray p) (finished (ordering n t) p tray) back second result at (by_steps t p tray at)
   unfolding line_of
   twice how n first =
@@ -322,7 +324,7 @@ module _ (ticket : List ℕ) (p : Placements) (source out scratch : List ℕ) (a
   came_out_lem =
       output_pixel ticket p source out scratch h.work h.done at.column at.row h.on.column h.on.row
 
-  reason_is : (told_of ticket p source out scratch at).reason ≡ by_steps t (source_page p) source at
+  reason_is : reason_told (told_of ticket p source out scratch at) ≡ by_steps t (source_page p) source at
   unfolding is_done
   reason_is =
       let judged =
@@ -334,9 +336,9 @@ module _ (ticket : List ℕ) (p : Placements) (source out scratch : List ℕ) (a
   -- a statement on the finished page and on the steps is one on the output tray and on what is told
   of_job : (P : ℕ → Reason → Type 0)
       → P (finished t (source_page p) source at.column at.row) (by_steps t (source_page p) source at)
-      → P (came_out ticket p source out scratch at) (told_of ticket p source out scratch at).reason
+      → P (came_out ticket p source out scratch at) (reason_told (told_of ticket p source out scratch at))
   of_job P holds =
-      subst (λ (w : ℕ). P w (told_of ticket p source out scratch at).reason) (sym came_out_lem)
+      subst (λ (w : ℕ). P w (reason_told (told_of ticket p source out scratch at))) (sym came_out_lem)
       (subst (P (finished t (source_page p) source at.column at.row)) (sym reason_is) holds)
 
   abbrev page : ℕ → ℕ → ℕ
@@ -345,20 +347,20 @@ module _ (ticket : List ℕ) (p : Placements) (source out scratch : List ℕ) (a
   abbrev back_by : Bool → ℕ
   back_by low = back_of (segment_of t) low
 
-  job_once : (n : ℕ) (low : Bool) → Once n low → t.operation ≡ n
+  job_once : (n : Operation) (low : Bool) → Once n low → t.operation ≡ n
       → ByOnePass t (source_page p) page (back_by low) (came_out ticket p source out scratch at) at
-      (told_of ticket p source out scratch at).reason
+      (reason_told (told_of ticket p source out scratch at))
   job_once n low how e =
       of_job (λ w reason. ByOnePass t (source_page p) page (back_by low) w at reason)
-      (once t (source_page p) source allowed at is_shown low (subst (λ (k : ℕ). Once k low) (sym e) how))
+      (once t (source_page p) source allowed at is_shown low (subst (λ (k : Operation). Once k low) (sym e) how))
 
-  job_twice : (n first : ℕ) (low : Bool) → Twice n low → Once first low → t.operation ≡ n
+  job_twice : (n first : Operation) (low : Bool) → Twice n low → Once first low → t.operation ≡ n
       → ByTwoPasses t (source_page p) page (finished (ordering first t) (source_page p) source) (back_by low)
-      (back_by (not low)) (came_out ticket p source out scratch at) at (told_of ticket p source out scratch at).reason
+      (back_by (not low)) (came_out ticket p source out scratch at) at (reason_told (told_of ticket p source out scratch at))
   job_twice n first low how one e =
       let between : ℕ → ℕ → ℕ = finished (ordering first t) (source_page p) source in
       of_job (λ w reason. ByTwoPasses t (source_page p) page between (back_by low) (back_by (not low)) w at reason)
-      (twice t (source_page p) source allowed at is_shown low (subst (λ (k : ℕ). Twice k low) (sym e) how) first one)
+      (twice t (source_page p) source allowed at is_shown low (subst (λ (k : Operation). Twice k low) (sym e) how) first one)
 
 pub why_erosion : WhyErosion
 unfolding back_of segment_of

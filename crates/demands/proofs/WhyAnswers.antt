@@ -2,6 +2,7 @@
 -- 19 is the question's own.
 -- Assumes nothing.
 use mathlib.Core.Path.{◌≡◌, refl, sym, ap, ◌∙◌, subst}
+use Rattle.std.specs.Prelude.{Result, Err, Ok}
 use mathlib.Core.Bool.{Bool, true, false, cond, true≢false}
 use mathlib.Core.Logic.{inl, inr, by_cases}
 use mathlib.Core.List.{List, [], ◌∷◌}
@@ -12,12 +13,11 @@ use borrow.Author.Tests.{ltb-true}
 use lib.Dec.{eqb}
 use lib.ListN.{length}
 use Rattle.refusal.specs.Refusal.{refusal_number}
-use Rattle.refusal.specs.Answer.{number_of, is_done}
+use Rattle.refusal.specs.Answer.{number_of, is_done, Answer, done_with, giving, answer_in}
 use Rattle.refusal.specs.Chain.{unless, ◌then◌}
-use Rattle.refusal.specs.declared.Answer.{Answer}
-use Rattle.refusal.specs.declared.Answer.TheVariants.{Done, Refused}
 use Rattle.refusal.specs.declared.Later.TheVariants.{PixelOffPage}
 use Rattle.refusal.specs.declared.Refusal.{Refusal}
+use Rattle.refusal.specs.declared.Refused.{Refused}
 use Rattle.refusal.specs.declared.Refusal.TheVariants.{Later}
 use Rattle.fields.specs.Fields.{field_end, first_box}
 use Rattle.ticket.specs.Judging.{judge_head, judge_size, judge_field, judge_operation, judge_line, judge_vector}
@@ -38,7 +38,6 @@ use Rattle.why.proofs.Laws as laws
 use Rattle.why.specs.Reason.{no_reason, by_box}
 use Rattle.why.specs.Told.{why_answer, lengths_of}
 use Rattle.why.specs.declared.Reason.{Reason}
-use Rattle.why.specs.declared.Told.{Told}
 use Rattle.demands.specs.Why.{WhyRefused, WhyOffPage, WhyNineteen, WhyDone, ByBox, WhyBox, WhySame}
 use Rattle.demands.specs.Why.{WhySameRefused, PixelOff}
 use Rattle.demands.proofs.Same.{same_lengths}
@@ -65,8 +64,8 @@ why_done ticket p source out scratch work at done on =
 
 small_then : (a b : Answer) → number_of a ≤ 14 → number_of b ≤ 14 → number_of (a then b) ≤ 14
 unfolding ◌then◌ number_of
-small_then (Done work) b h k = k
-small_then (Refused refusal place) b h k = h
+small_then (Ok work) b h k = k
+small_then (Err refused) b h k = h
 
 small_unless : (test : Bool) (refusal : Refusal) (place : ℕ) → refusal_number refusal ≤ 14
     → number_of (unless test refusal place) ≤ 14
@@ -74,11 +73,11 @@ unfolding unless number_of
 small_unless true refusal place h = omega arith
 small_unless false refusal place h = h
 
-small_done : (work : ℕ) → number_of (Done work) ≤ 14
+small_done : (work : ℕ) → number_of (done_with work) ≤ 14
 unfolding number_of
 small_done work = omega arith
 
-small_case : (b : Bool) (a : Answer) → number_of a ≤ 14 → number_of (cond b (Done 0) a) ≤ 14
+small_case : (b : Bool) (a : Answer) → number_of a ≤ 14 → number_of (cond b (done_with 0) a) ≤ 14
 small_case true a h = small_done 0
 small_case false a h = h
 
@@ -139,12 +138,12 @@ small_answer ticket p n =
     small_then _ _ (small_ticket ticket) (small_then _ _ (small_places (shown ticket) p n) (small_done _))
 
 pub why_nineteen : WhyNineteen
-unfolding number_of is_done
+unfolding number_of is_done answer_in
 why_nineteen ticket p source out scratch at given = by_answer (answer ticket p (lengths source out scratch)) refl
   where
     by_answer : (a : Answer) → answer ticket p (lengths source out scratch) ≡ a
         → (is_done (answer ticket p (lengths source out scratch)) ≡ true) × PixelOff p at
-    by_answer (Done work) e = (
+    by_answer (Ok work) e = (
       ap is_done e,
       by_cases (dec_lt at.column p.width)
           (λ column.
@@ -155,13 +154,13 @@ why_nineteen ticket p source out scratch at given = by_answer (answer ticket p (
           (λ low. inr (omega arith)))
           (λ wide. inl (omega arith)),
     )
-    by_answer (Refused refusal place) e =
-        let told = why_refused ticket p source out scratch at refusal place e in
+    by_answer (Err refused) e =
+        let told = why_refused ticket p source out scratch at refused.refusal refused.at e in
         absurd
         (omega (
           arith,
           given,
-          ap (λ (x : Told). number_of x.answer) told,
+          ap (λ (x : Result Reason Refused). number_of (answer_in x)) told,
           ap number_of e,
           small_answer ticket p (lengths source out scratch),
         ))
@@ -216,5 +215,5 @@ why_same_refused ticket p source source' output scratch at same refused =
     let answers = answers_same ticket p source source' output scratch at same in
     let first = sym (ap is_done (laws.told_answer ticket p source output scratch at)) ∙ refused in
     laws.told_refused ticket p source output scratch at first
-    ∙ ap (λ (a : Answer). record { answer = a; reason = no_reason }) answers
+    ∙ ap (λ (a : Answer). giving a no_reason) answers
     ∙ sym (laws.told_refused ticket p source' output scratch at (sym (ap is_done answers) ∙ first))

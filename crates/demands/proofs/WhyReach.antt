@@ -3,19 +3,20 @@
 -- Assumes nothing.
 use mathlib.Core.Path.{◌≡◌, refl, sym, ap, ◌∙◌, subst}
 use mathlib.Core.Bool.{Bool, true, false, not}
-use mathlib.Core.Logic.{by_cases}
 use mathlib.Core.List.{List}
 use Prim.Native.Nat.{ℕ, suc, ◌+◌, ◌<◌}
-use native.Mathlib.Decide.{dec_le}
 use native.Mathlib.Omega.{arith}
 use Rattle.geometry.specs.Line.{step_of}
 use Rattle.geometry.specs.Drift.{Sound}
 use Rattle.geometry.proofs.Laws.{step_of_major}
 use Rattle.geometry.specs.declared.Line.{Line}
+use Rattle.std.specs.Prelude.{Ok}
 use Rattle.refusal.specs.Answer.{is_done}
 use Rattle.ticket.specs.Laws.{Allowed}
 use Rattle.ticket.specs.Reading.{shown}
 use Rattle.ticket.specs.declared.Ticket.{Ticket}
+use Rattle.ticket.specs.declared.Operation.{Operation}
+use Rattle.ticket.specs.declared.Operation.TheVariants.{Erode, Dilate, Open, Close}
 use Rattle.boxes.specs.Boxes.{hidden, boxes_of}
 use Rattle.placement.specs.Placement.{source_page}
 use Rattle.placement.specs.declared.Placement.{Placement}
@@ -38,7 +39,7 @@ use Rattle.demands.specs.Why.{WhyReach}
 use Rattle.demands.proofs.Reach.{steps_same, finished_same}
 use Rattle.demands.proofs.Windows.{window_same, line_same}
 use Rattle.demands.proofs.Why.{Shown, back_below, second_found}
-use Rattle.demands.proofs.WhyAnswers.{answers_same, why_same, why_same_refused}
+use Rattle.demands.proofs.WhyAnswers.{answers_same, why_same_refused}
 
 -- the two windows are end to end
 backs_whole : (t : Ticket) → Allowed t → (low : Bool)
@@ -114,30 +115,27 @@ module _ (t : Ticket) (p : Placement) (source source' : List ℕ) (ok : Allowed 
         ∙ sym (on_line_lem page' s))
         k h
 
-    once_same : (n : ℕ) → Once n low → t.operation ≡ n → by_steps t p source at ≡ by_steps t p source' at
+    once_same : (n : Operation) → Once n low → t.operation ≡ n → by_steps t p source at ≡ by_steps t p source' at
     once_same n how e =
-        named.once_same t p source source' at low result_same (subst (λ (k : ℕ). Once k low) (sym e) how) own_window
+        named.once_same t p source source' at low result_same (subst (λ (k : Operation). Once k low) (sym e) how) own_window
 
-    twice_same : (n : ℕ) → Twice n low → t.operation ≡ n → Shown t p at.column at.row
+    twice_same : (n : Operation) → Twice n low → t.operation ≡ n → Shown t p at.column at.row
         → by_steps t p source at ≡ by_steps t p source' at
     twice_same n how e shown =
-        let orders : Twice t.operation low = subst (λ (k : ℕ). Twice k low) (sym e) how in
+        let orders : Twice t.operation low = subst (λ (k : Operation). Twice k low) (sym e) how in
         named.twice_same t p source source' at low result_same orders
         (second_found t p source ok at shown low orders)
         second_window
         (step_window (finished t p source at.column at.row))
 
   steps_told : Shown t p at.column at.row → by_steps t p source at ≡ by_steps t p source' at
-  steps_told shown =
-      by_cases (dec_le t.operation 1)
-      (λ one. once_same true erosion named.erosion_once (omega (arith, ok.operation_from)))
-      (λ past_one.
-      by_cases (dec_le t.operation 2)
-      (λ two. once_same false dilation named.dilation_once (omega arith))
-      (λ past_two.
-      by_cases (dec_le t.operation 3)
-      (λ three. twice_same true opening named.opening_twice (omega arith) shown)
-      (λ past_three. twice_same false closing named.closing_twice (omega (arith, ok.operation_to)) shown)))
+  steps_told shown = by t.operation refl
+    where
+      by : (n : Operation) → t.operation ≡ n → by_steps t p source at ≡ by_steps t p source' at
+      by Erode e = once_same true erosion named.erosion_once e
+      by Dilate e = once_same false dilation named.dilation_once e
+      by Open e = twice_same true opening named.opening_twice e shown
+      by Close e = twice_same false closing named.closing_twice e shown
 
   reasons_same : at.column < p.width → at.row < p.height → reason_of t p source at ≡ reason_of t p source' at
   reasons_same column row = by_hidden (hidden (boxes_of t) at.column at.row) refl
@@ -163,13 +161,11 @@ why_reach ticket p source source' output scratch at bytes same agree =
     by_answer true done =
         let asked = laws.why_answered ticket p (lengths_of source output scratch) at done in
         let ok = finished_allowed ticket p (lengths_of source output scratch) asked.work bytes asked.job in
-        let answers = why_same ticket p source source' output scratch at same in
-        let second = sym (ap is_done (answers_same ticket p source source' output scratch at same)) ∙ done in
-        let reasons =
-        laws.told_done ticket p source output scratch at done
-        ∙ reasons_same (shown ticket) (source_page p) source source' ok at agree asked.column asked.row
-        ∙ sym (laws.told_done ticket p source' output scratch at second) in
-        λ i. record { answer = answers i; reason = reasons i }
+        let answers = answers_same ticket p source source' output scratch at same in
+        let second = sym (ap is_done answers) ∙ done in
+        laws.told_ok ticket p source output scratch at done
+        ∙ ap Ok (reasons_same (shown ticket) (source_page p) source source' ok at agree asked.column asked.row)
+        ∙ sym (laws.told_ok ticket p source' output scratch at second)
     by_answer false refused =
         why_same_refused ticket p source source' output scratch at same
         (ap is_done (laws.told_answer ticket p source output scratch at) ∙ refused)

@@ -7,14 +7,16 @@ use mathlib.Core.Option.{Option, none, some}
 use Prim.Native.Nat.{ℕ, suc, ◌+◌, ◌-◌, ◌≤◌, ◌<◌}
 use native.Mathlib.Omega.{arith}
 use borrow.Author.Tests.{leb-true}
-use lib.Dec.{leb, eqb}
+use lib.Dec.{leb}
 use Rattle.geometry.specs.Line.{landing, step_of, major_at}
 use Rattle.geometry.specs.Drift.{Sound}
 use Rattle.geometry.proofs.Laws.{step_of_major}
 use Rattle.geometry.specs.declared.Line.{Line}
+use Rattle.ticket.specs.declared.Operation.{Operation}
+use Rattle.ticket.specs.declared.Operation.TheVariants.{Erode, Dilate, Open, Close}
 use Rattle.filter.specs.Seen.{View}
 use Rattle.filter.specs.Filters.{value_at, on_line, in_window, pass_at, pass, eroded, dilation_back}
-use Rattle.filter.specs.Filters.{dilated, opened, closed, erosion, dilation, opening, closing, operated}
+use Rattle.filter.specs.Filters.{dilated, opened, closed, operated}
 use Rattle.filter.proofs.Laws.{extreme_same, pass_absent, own_on_line, same_line}
 use Rattle.filter.specs.declared.Segment.{Segment}
 
@@ -98,11 +100,6 @@ module _ (l : Line) (ok : Sound l) (L M m : ℕ) (page page' : View)
 
 -- ---- the four operations
 
-cond_same :
-    (b : Bool) (f g f' g' : View) (M m : ℕ) → f M m ≡ f' M m → g M m ≡ g' M m → cond b f g M m ≡ cond b f' g' M m
-cond_same true f g f' g' M m h k = h
-cond_same false f g f' g' M m h k = k
-
 module _ (segment : Segment) (ok : Sound segment.line) (short : segment.origin < segment.length) where
   -- the two windows are end to end: L - 1 - o and o
   whole_open : suc (segment.origin + dilation_back segment) ≡ segment.length
@@ -116,41 +113,36 @@ module _ (segment : Segment) (ok : Sound segment.line) (short : segment.origin <
       (same :
       (s : ℕ) → step_of segment.line M < s + segment.length → s < step_of segment.line M + segment.length
       → on_line segment.line page M m s ≡ on_line segment.line page' M m s) where
-    pub operated_same : (n : ℕ) → operated n segment page M m ≡ operated n segment page' M m
+    pub operated_same : (n : Operation) → operated n segment page M m ≡ operated n segment page' M m
     unfolding operated eroded dilated opened closed
-    operated_same n =
-        let l : Line = segment.line in
-        let L : ℕ = segment.length in
-        let o : ℕ = segment.origin in
-        let back : ℕ = dilation_back segment in
-        cond_same (eqb n erosion) (eroded segment page) _ (eroded segment page') _ M m
-        (once_same l ok L M m page page' same true o (omega arith))
-        (cond_same (eqb n dilation) (dilated segment page) _ (dilated segment page') _ M m
-        (once_same l ok L M m page page' same false back (omega (arith, whole_open)))
-        (cond_same (eqb n opening) (opened segment page) _ (opened segment page') _ M m
-        (twice_same l ok L M m page page' same true false o back whole_open)
-        (cond_same (eqb n closing) (closed segment page) _ (closed segment page') _ M m
-        (twice_same l ok L M m page page' same false true back o whole_close) refl)))
+    operated_same Erode =
+        once_same segment.line ok segment.length M m page page' same true segment.origin (omega arith)
+    operated_same Dilate =
+        once_same segment.line ok segment.length M m page page' same false (dilation_back segment)
+        (omega (arith, whole_open))
+    operated_same Open =
+        twice_same segment.line ok segment.length M m page page' same true false segment.origin
+        (dilation_back segment) whole_open
+    operated_same Close =
+        twice_same segment.line ok segment.length M m page page' same false true (dilation_back segment)
+        segment.origin whole_close
 
 -- ---- an absent pixel stays absent
 
-cond_none : (b : Bool) (f g : View) (M m : ℕ) → f M m ≡ none → g M m ≡ none → cond b f g M m ≡ none
-cond_none true f g M m h k = h
-cond_none false f g M m h k = k
+module _ (segment : Segment) (page : View) (M m : ℕ) (absent : page M m ≡ none) where
+  eroding : eroded segment page M m ≡ none
+  unfolding eroded
+  eroding = pass_absent true segment.line segment.origin segment.length page M m absent
 
-pub operated_none :
-    (n : ℕ) (segment : Segment) (page : View) (M m : ℕ) → page M m ≡ none → operated n segment page M m ≡ none
-unfolding operated eroded dilated opened closed
-operated_none n segment page M m e =
-    let l : Line = segment.line in
-    let L : ℕ = segment.length in
-    let o : ℕ = segment.origin in
-    let back : ℕ = dilation_back segment in
-    let eroding : eroded segment page M m ≡ none = pass_absent true l o L page M m e in
-    let dilating : dilated segment page M m ≡ none = pass_absent false l back L page M m e in
-    cond_none (eqb n erosion) (eroded segment page) _ M m eroding
-    (cond_none (eqb n dilation) (dilated segment page) _ M m dilating
-    (cond_none (eqb n opening) (opened segment page) _ M m
-    (pass_absent false l back L (eroded segment page) M m eroding)
-    (cond_none (eqb n closing) (closed segment page) _ M m
-    (pass_absent true l o L (dilated segment page) M m dilating) refl)))
+  dilating : dilated segment page M m ≡ none
+  unfolding dilated
+  dilating = pass_absent false segment.line (dilation_back segment) segment.length page M m absent
+
+  pub operated_none : (n : Operation) → operated n segment page M m ≡ none
+  unfolding operated eroded dilated opened closed
+  operated_none Erode = eroding
+  operated_none Dilate = dilating
+  operated_none Open =
+      pass_absent false segment.line (dilation_back segment) segment.length (eroded segment page) M m eroding
+  operated_none Close =
+      pass_absent true segment.line segment.origin segment.length (dilated segment page) M m dilating

@@ -11,8 +11,10 @@ use Rattle.geometry.specs.Number.{behind, ahead}
 use Rattle.runs.specs.Block.{rightward, leftward, resulting}
 use Rattle.runs.specs.Scratch.{total}
 use Rattle.ticket.specs.Reading.{shown}
+use Rattle.ticket.specs.declared.Operation.{Operation}
+use Rattle.ticket.specs.declared.Operation.TheVariants.{Erode, Dilate, Open, Close}
 use Rattle.filter.specs.Seen.{runs_steep}
-use Rattle.filter.specs.Filters.{erosion, dilation, opening, closing, dilation_back}
+use Rattle.filter.specs.Filters.{dilation_back}
 use Rattle.filter.specs.Work.{charged, charged_at, pass_work, erosion_work, dilation_work, work_of}
 use Rattle.filter.specs.declared.Segment.{Segment}
 use Rattle.job.specs.Order.{segment_of}
@@ -82,29 +84,20 @@ module _ (segment : Segment) (w h : ℕ) where
 pub one_pass_work : OnePassWork
 unfolding job_work work_of
 one_pass_work t w h (inl e) =
-    rw (ap (λ (n : ℕ). work_of n (segment_of t) w h) e) (erosion_most (segment_of t) w h)
+    rw (ap (λ (n : Operation). work_of n (segment_of t) w h) e) (erosion_most (segment_of t) w h)
 one_pass_work t w h (inr e) =
-    rw (ap (λ (n : ℕ). work_of n (segment_of t) w h) e) (dilation_most (segment_of t) w h)
+    rw (ap (λ (n : Operation). work_of n (segment_of t) w h) e) (dilation_most (segment_of t) w h)
 
-of_two :
-    (one two three four : Bool) (x y v : ℕ) → x ≤ v → y ≤ v
-    → cond one x (cond two y (cond three (x + y) (cond four (y + x) 0))) ≤ v + v
-of_two true two three four x y v h k = omega arith
-of_two false true three four x y v h k = omega arith
-of_two false false true four x y v h k = omega arith
-of_two false false false true x y v h k = omega arith
-of_two false false false false x y v h k = omega arith
+of_two : (n : Operation) (segment : Segment) (w h : ℕ) → work_of n segment w h ≤ 6 * (w * h)
+unfolding work_of
+of_two Erode segment w h = omega (arith, erosion_most segment w h)
+of_two Dilate segment w h = omega (arith, dilation_most segment w h)
+of_two Open segment w h = omega (arith, erosion_most segment w h, dilation_most segment w h)
+of_two Close segment w h = omega (arith, erosion_most segment w h, dilation_most segment w h)
 
 pub two_pass_work : TwoPassWork
-unfolding job_work work_of
-two_pass_work t w h =
-    let n : ℕ = t.operation in
-    omega (
-      arith,
-      of_two (eqb n erosion) (eqb n dilation) (eqb n opening) (eqb n closing) _ _ (3 * (w * h))
-          (erosion_most (segment_of t) w h)
-          (dilation_most (segment_of t) w h),
-    )
+unfolding job_work
+two_pass_work t w h = of_two t.operation (segment_of t) w h
 
 pub finished_work : FinishedWork
 finished_work ticket p n work done = sym (finished_job ticket p n work done).worked

@@ -4,7 +4,7 @@
 -- reach is stated over.
 -- Assumes nothing.
 use Rattle.std.specs.Prelude.{◌≡◌, true, false, ◌⊎◌, ◌≢◌, List, ℕ, suc, ◌≤◌, ◌<◌, length, get_or}
-use Rattle.refusal.specs.declared.Answer.TheVariants.{Done}
+use Rattle.refusal.specs.Answer.{done_with}
 use Rattle.ticket.specs.Laws.{Allowed, Bytes}
 use Rattle.ticket.specs.Reading.{shown}
 use Rattle.ticket.specs.declared.Ticket.{Ticket}
@@ -12,14 +12,15 @@ use Rattle.boxes.specs.Boxes.{hidden, boxes_of}
 use Rattle.placement.specs.Placement.{byte_of, pixel_in, Placed, source_page, output_page}
 use Rattle.placement.specs.declared.Placement.{Placement}
 use Rattle.placement.specs.declared.Placements.{Placements}
+use Rattle.filter.specs.Filters.{opening, closing}
 use Rattle.job.specs.Order.{line_of}
 use Rattle.job.specs.Job.{finished_with, answer, output_after}
 use Rattle.judging.specs.declared.Lengths.{Lengths}
 use Rattle.demands.specs.Near.{step_at, on_page, FewerSteps, Near}
 
--- "operations 3 and 4"
+-- "operations 3 and 4": "3 open, 4 close"
 abbrev pub OpensOrCloses : Ticket → Type 0
-OpensOrCloses t = (t.operation ≡ 3) ⊎ (t.operation ≡ 4)
+OpensOrCloses t = (t.operation ≡ opening) ⊎ (t.operation ≡ closing)
 
 -- "a pixel and all steps up to L-1 on both sides of it are on the page and in no box": the steps are counted from 0, so
 -- the L-1 steps before the pixel are there if it stands at step L-1 or later
@@ -77,6 +78,6 @@ pub record JobMatters (ticket : List ℕ) (p : Placements) (n : Lengths) (c r c'
 -- The reach is exact, of the job: for every ticket, placement and lengths that no refusal meets.
 abbrev pub ExactJobReach : Type 0
 ExactJobReach =
-    (ticket : List ℕ) (p : Placements) (n : Lengths) (work c r : ℕ) → Bytes ticket → answer ticket p n ≡ Done work
+    (ticket : List ℕ) (p : Placements) (n : Lengths) (work c r : ℕ) → Bytes ticket → answer ticket p n ≡ done_with work
     → OpensOrCloses (shown ticket) → Clear (shown ticket) (source_page p) c r
     → (c' r' : ℕ) → Near (shown ticket) (source_page p) c r c' r' → JobMatters ticket p n c r c' r'

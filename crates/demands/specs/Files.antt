@@ -1,9 +1,8 @@
 -- The demands on jobs that take a P5 file. Document 02, wish 1: "Demands 2 and 3 speak of pages once read, as 17 looks
 -- at hidden pixels too."
 -- Assumes nothing.
-use Rattle.std.specs.Prelude.{◌≡◌, true, ◌≢◌, List, ℕ, ◌*◌, ◌≤◌, ◌<◌, length, get_or}
-use Rattle.refusal.specs.Answer.{number_of, work_in, is_done}
-use Rattle.refusal.specs.declared.Answer.TheVariants.{Done}
+use Rattle.std.specs.Prelude.{◌≡◌, true, ◌≢◌, List, ℕ, ◌*◌, ◌≤◌, ◌<◌, length, get_or, Ok}
+use Rattle.refusal.specs.Answer.{number_of, work_in, is_done, done_with}
 use Rattle.ticket.specs.Laws.{Allowed, Bytes}
 use Rattle.ticket.specs.Reading.{shown}
 use Rattle.ticket.specs.declared.Ticket.{Ticket}
@@ -16,7 +15,7 @@ use Rattle.pgm.specs.declared.Header.{Header}
 use Rattle.judging.specs.Pages.{job_scratch}
 use Rattle.job.specs.Job.{lengths}
 use Rattle.judging.specs.declared.Lengths.{Lengths}
-use Rattle.file.specs.FileJob.{header, file_page, file_answer, delivery, file_output_after, file_scratch_after}
+use Rattle.file.specs.FileJob.{header, file_page, file_answer, delivery, length_in, file_output_after, file_scratch_after}
 use Rattle.file.specs.Places.{header_for, places_of}
 use Rattle.demands.specs.Same.{SameLengths}
 use Rattle.demands.specs.Near.{Near}
@@ -63,7 +62,7 @@ FileRefusedWork =
 -- "later output bytes keep their values": every job, behind the length that it tells
 abbrev pub FileOutputKept : Type 0
 FileOutputKept =
-    (ticket file out scratch : List ℕ) (i : ℕ) → (delivery ticket file (lengths file out scratch)).length ≤ i
+    (ticket file out scratch : List ℕ) (i : ℕ) → length_in (delivery ticket file (lengths file out scratch)) ≤ i
     → get_or (file_output_after ticket file out scratch) i 0 ≡ get_or out i 0
 
 abbrev pub FileOutputLength : Type 0
@@ -73,7 +72,7 @@ FileOutputLength =
 -- "they hold zero at the end of a finished job. Later scratch bytes keep their values."
 abbrev pub FileScratchZero : Type 0
 FileScratchZero =
-    (ticket file out scratch : List ℕ) (work : ℕ) → file_answer ticket file (lengths file out scratch) ≡ Done work
+    (ticket file out scratch : List ℕ) (work : ℕ) → file_answer ticket file (lengths file out scratch) ≡ done_with work
     → (i : ℕ) → i < job_scratch (shown ticket) (places_of (header file))
     → get_or (file_scratch_after ticket file out scratch) i 0 ≡ 0
 
@@ -90,22 +89,20 @@ FileScratchLength =
 -- whatever stands behind the file, is read as the sides and the maximum that the job's own file had,
 abbrev pub FileReadsBack : Type 0
 FileReadsBack =
-    (ticket file out scratch : List ℕ) (work : ℕ) → file_answer ticket file (lengths file out scratch) ≡ Done work
+    (ticket file out scratch : List ℕ) (work : ℕ) → file_answer ticket file (lengths file out scratch) ≡ done_with work
     → reading (file_output_after ticket file out scratch)
-    ≡ record {
-      answer = Done 0;
-      header = record {
-        width = (header file).width;
-        height = (header file).height;
-        maximum = (header file).maximum;
-        start = length (header_for (header file));
-      };
-    }
+    ≡ Ok
+    (record {
+      width = (header file).width;
+      height = (header file).height;
+      maximum = (header file).maximum;
+      start = length (header_for (header file));
+    })
 
 -- and as the page that was made
 abbrev pub FilePageBack : Type 0
 FilePageBack =
-    (ticket file out scratch : List ℕ) (work : ℕ) → file_answer ticket file (lengths file out scratch) ≡ Done work
+    (ticket file out scratch : List ℕ) (work : ℕ) → file_answer ticket file (lengths file out scratch) ≡ done_with work
     → (c r : ℕ) → c < (header file).width → r < (header file).height
     → pixel_in (file_output_after ticket file out scratch) (source_of (file_output_after ticket file out scratch)) c r
     ≡ file_page (shown ticket) file c r
@@ -115,19 +112,19 @@ FilePageBack =
 -- "a hidden pixel coming out as that maximum"
 abbrev pub FileHidden : Type 0
 FileHidden =
-    (ticket file out scratch : List ℕ) (work : ℕ) → file_answer ticket file (lengths file out scratch) ≡ Done work
+    (ticket file out scratch : List ℕ) (work : ℕ) → file_answer ticket file (lengths file out scratch) ≡ done_with work
     → (c r : ℕ) → c < (header file).width → r < (header file).height → hidden (boxes_of (shown ticket)) c r ≡ true
     → pixel_in (file_output_after ticket file out scratch) (output_of file) c r ≡ (header file).maximum
 
 -- the work is that of the ticket and the sides: at most three comparisons a pixel and pass
 abbrev pub FileWork : Type 0
 FileWork =
-    (ticket file : List ℕ) (n : Lengths) (work : ℕ) → file_answer ticket file n ≡ Done work
+    (ticket file : List ℕ) (n : Lengths) (work : ℕ) → file_answer ticket file n ≡ done_with work
     → work ≤ 6 * ((header file).width * (header file).height)
 
 abbrev pub FileOnePass : Type 0
 FileOnePass =
-    (ticket file : List ℕ) (n : Lengths) (work : ℕ) → file_answer ticket file n ≡ Done work → OnePass (shown ticket)
+    (ticket file : List ℕ) (n : Lengths) (work : ℕ) → file_answer ticket file n ≡ done_with work → OnePass (shown ticket)
     → work ≤ 3 * ((header file).width * (header file).height)
 
 -- ---- 3. what answers and pixels depend on
@@ -145,7 +142,7 @@ FileSame =
 abbrev pub FileReach : Type 0
 FileReach =
     (ticket file file' out out' scratch scratch' : List ℕ) (work : ℕ) → Bytes ticket → SameRead file file'
-    → SameLengths file file' out out' scratch scratch' → file_answer ticket file (lengths file out scratch) ≡ Done work
+    → SameLengths file file' out out' scratch scratch' → file_answer ticket file (lengths file out scratch) ≡ done_with work
     → (c r : ℕ) → c < (header file).width → r < (header file).height
     → AgreeNear (shown ticket) (source_of file) file file' c r
     → pixel_in (file_output_after ticket file out scratch) (output_of file) c r
@@ -155,7 +152,7 @@ FileReach =
 abbrev pub FilePageAlone : Type 0
 FilePageAlone =
     (ticket file file' out out' scratch scratch' : List ℕ) (work : ℕ) → Bytes ticket → SameRead file file'
-    → SameLengths file file' out out' scratch scratch' → file_answer ticket file (lengths file out scratch) ≡ Done work
+    → SameLengths file file' out out' scratch scratch' → file_answer ticket file (lengths file out scratch) ≡ done_with work
     → AgreeOnPage (shown ticket) (source_of file) file file'
     → (c r : ℕ) → c < (header file).width → r < (header file).height
     → pixel_in (file_output_after ticket file out scratch) (output_of file) c r

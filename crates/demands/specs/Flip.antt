@@ -6,10 +6,10 @@ use Rattle.std.specs.Prelude.{◌≡◌, Bool, true, false, not, cond, List, map
 use Rattle.vectors.specs.Vector.{minor_of}
 use Rattle.geometry.specs.Drift.{mirrored}
 use Rattle.geometry.specs.Flip.{flipped}
-use Rattle.refusal.specs.Answer.{is_done}
-use Rattle.refusal.specs.declared.Answer.TheVariants.{Done}
+use Rattle.refusal.specs.Answer.{is_done, done_with}
 use Rattle.fields.specs.Vectors.{vector_allowed, phase_allowed}
-use Rattle.ticket.specs.Judging.{judged, is_periodic}
+use Rattle.ticket.specs.Judging.{judged}
+use Rattle.ticket.specs.Reading.{periodic_kind}
 use Rattle.ticket.specs.Laws.{Allowed, Bytes}
 use Rattle.ticket.specs.Reading.{shown}
 use Rattle.ticket.specs.declared.HiddenBox.{HiddenBox}
@@ -90,8 +90,8 @@ FlippedWork =
 abbrev pub FlippedAnswer : Type 0
 FlippedAnswer =
     (ticket ticket' : List ℕ) (p : Placements) (n : Lengths) (work : ℕ) → Bytes ticket
-    → answer ticket p n ≡ Done work → is_done (judged ticket') ≡ true
-    → FlippedTicket p.width p.height (shown ticket) (shown ticket') → answer ticket' p n ≡ Done work
+    → answer ticket p n ≡ done_with work → is_done (judged ticket') ≡ true
+    → FlippedTicket p.width p.height (shown ticket) (shown ticket') → answer ticket' p n ≡ done_with work
 
 -- THE FLIP, of the job: two jobs that are finished, each at its own placements, with pages that are flips of one
 -- another in their source trays and the boxes flipped in the ticket. What they leave in their output trays are flips of
@@ -99,8 +99,8 @@ FlippedAnswer =
 abbrev pub FlippedJob : Type 0
 FlippedJob =
     (ticket ticket' : List ℕ) (p p' : Placements) (source source' out out' scratch scratch' : List ℕ) (work work' : ℕ)
-    → Bytes ticket → answer ticket p (lengths source out scratch) ≡ Done work
-    → answer ticket' p' (lengths source' out' scratch') ≡ Done work'
+    → Bytes ticket → answer ticket p (lengths source out scratch) ≡ done_with work
+    → answer ticket' p' (lengths source' out' scratch') ≡ done_with work'
     → FlippedTicket p.width p.height (shown ticket) (shown ticket')
     → FlippedSource (shown ticket) (source_page p) (source_page p') source source'
     → (c r : ℕ) → c < p.width → r < p.height
@@ -112,7 +112,7 @@ FlippedJob =
 abbrev pub FlippedJobWork : Type 0
 FlippedJobWork =
     (ticket ticket' : List ℕ) (p p' : Placements) (n n' : Lengths) (work work' : ℕ) → Bytes ticket
-    → answer ticket p n ≡ Done work → answer ticket' p' n' ≡ Done work'
+    → answer ticket p n ≡ done_with work → answer ticket' p' n' ≡ done_with work'
     → FlippedTicket p.width p.height (shown ticket) (shown ticket')
     → p'.width ≡ p.width → p'.height ≡ p.height → work' ≡ work
 
@@ -121,8 +121,8 @@ FlippedJobWork =
 abbrev pub FlippedFile : Type 0
 FlippedFile =
     (ticket ticket' file file' out out' scratch scratch' : List ℕ) (work work' : ℕ) → Bytes ticket
-    → file_answer ticket file (lengths file out scratch) ≡ Done work
-    → file_answer ticket' file' (lengths file' out' scratch') ≡ Done work'
+    → file_answer ticket file (lengths file out scratch) ≡ done_with work
+    → file_answer ticket' file' (lengths file' out' scratch') ≡ done_with work'
     → FlippedTicket (header file).width (header file).height (shown ticket) (shown ticket')
     → FlippedSource (shown ticket) (source_of file) (source_of file') file file'
     → (header file').maximum ≡ (header file).maximum
@@ -134,7 +134,7 @@ FlippedFile =
 abbrev pub FlippedFileWork : Type 0
 FlippedFileWork =
     (ticket ticket' file file' : List ℕ) (n n' : Lengths) (work work' : ℕ) → Bytes ticket
-    → file_answer ticket file n ≡ Done work → file_answer ticket' file' n' ≡ Done work'
+    → file_answer ticket file n ≡ done_with work → file_answer ticket' file' n' ≡ done_with work'
     → FlippedTicket (header file).width (header file).height (shown ticket) (shown ticket')
     → (header file').width ≡ (header file).width → (header file').height ≡ (header file).height → work' ≡ work
 
@@ -144,8 +144,8 @@ FlippedFileWork =
 abbrev pub FlippedVector : Type 0
 FlippedVector =
     (t t' : Ticket) (w h : ℕ) → Allowed t → FlippedTicket w h t t'
-    → (vector_allowed (is_periodic t'.line) t'.dx t'.dy ≡ true)
-    × (phase_allowed (is_periodic t'.line) t'.dx t'.dy t'.phase ≡ true)
+    → (vector_allowed (periodic_kind t'.line) t'.dx t'.dy ≡ true)
+    × (phase_allowed (periodic_kind t'.line) t'.dx t'.dy t'.phase ≡ true)
 
 -- its boxes lie on the page,
 abbrev pub FlippedBoxes : Type 0

@@ -4,7 +4,7 @@
 -- and not 2(L - 1).
 -- Assumes nothing.
 use Rattle.std.specs.Prelude.{◌≡◌, true, false, List, ℕ, ◌<◌}
-use Rattle.refusal.specs.declared.Answer.TheVariants.{Done}
+use Rattle.refusal.specs.Answer.{done_with}
 use Rattle.ticket.specs.Laws.{Bytes}
 use Rattle.ticket.specs.Reading.{shown}
 use Rattle.ticket.specs.declared.Ticket.{Ticket}
@@ -36,7 +36,7 @@ AgreeOnPage t p source source' =
 abbrev pub Reach : Type 0
 Reach =
     (ticket : List ℕ) (p : Placements) (source source' out out' scratch scratch' : List ℕ) (work : ℕ) → Bytes ticket
-    → SameLengths source source' out out' scratch scratch' → answer ticket p (lengths source out scratch) ≡ Done work
+    → SameLengths source source' out out' scratch scratch' → answer ticket p (lengths source out scratch) ≡ done_with work
     → (c r : ℕ) → c < p.width → r < p.height → AgreeNear (shown ticket) (source_page p) source source' c r
     → pixel_in (output_after ticket p source out scratch) (output_page p) c r
     ≡ pixel_in (output_after ticket p source' out' scratch') (output_page p) c r
@@ -45,7 +45,7 @@ Reach =
 abbrev pub PageAlone : Type 0
 PageAlone =
     (ticket : List ℕ) (p : Placements) (source source' out out' scratch scratch' : List ℕ) (work : ℕ) → Bytes ticket
-    → SameLengths source source' out out' scratch scratch' → answer ticket p (lengths source out scratch) ≡ Done work
+    → SameLengths source source' out out' scratch scratch' → answer ticket p (lengths source out scratch) ≡ done_with work
     → AgreeOnPage (shown ticket) (source_page p) source source' → (c r : ℕ) → c < p.width → r < p.height
     → pixel_in (output_after ticket p source out scratch) (output_page p) c r
     ≡ pixel_in (output_after ticket p source' out' scratch') (output_page p) c r
@@ -54,6 +54,6 @@ PageAlone =
 abbrev pub HiddenWhite : Type 0
 HiddenWhite =
     (ticket : List ℕ) (p : Placements) (source out scratch : List ℕ) (work : ℕ)
-    → answer ticket p (lengths source out scratch) ≡ Done work
+    → answer ticket p (lengths source out scratch) ≡ done_with work
     → (c r : ℕ) → c < p.width → r < p.height → hidden (boxes_of (shown ticket)) c r ≡ true
     → pixel_in (output_after ticket p source out scratch) (output_page p) c r ≡ 255

@@ -3,8 +3,7 @@
 -- keep their values."
 -- Assumes nothing.
 use Rattle.std.specs.Prelude.{◌≡◌, List, ℕ, ◌≤◌, ◌<◌, length, get_or}
-use Rattle.refusal.specs.Answer.{number_of, work_in}
-use Rattle.refusal.specs.declared.Answer.TheVariants.{Done}
+use Rattle.refusal.specs.Answer.{number_of, work_in, done_with}
 use Rattle.ticket.specs.Reading.{shown}
 use Rattle.placement.specs.Placement.{byte_of, output_page}
 use Rattle.placement.specs.declared.Placement.{Placement}
@@ -48,7 +47,7 @@ ScratchLength =
 abbrev pub ScratchZero : Type 0
 ScratchZero =
     (ticket : List ℕ) (p : Placements) (source out scratch : List ℕ) (work : ℕ)
-    → answer ticket p (lengths source out scratch) ≡ Done work
+    → answer ticket p (lengths source out scratch) ≡ done_with work
     → (i : ℕ) → i < job_scratch (shown ticket) p
     → get_or (scratch_after ticket p source out scratch) i 0 ≡ 0
 

@@ -2,15 +2,16 @@
 -- first one". Said of what is told (why, Told), over the words of a job: its answer, its output tray, the finished page
 -- of a ticket, and the steps of a line (Near). No pass of a filter and no search is named.
 -- Assumes nothing.
-use Rattle.std.specs.Prelude.{◌≡◌, true, false, ◌⊎◌, List, ℕ, ◌-◌, ◌≤◌, ◌<◌, length, get_or}
-use Rattle.refusal.specs.Answer.{number_of, is_done}
-use Rattle.refusal.specs.declared.Answer.TheVariants.{Done, Refused}
+use Rattle.std.specs.Prelude.{◌≡◌, true, false, ◌⊎◌, List, ℕ, ◌-◌, ◌≤◌, ◌<◌, length, get_or, Result, Err}
+use Rattle.refusal.specs.Answer.{number_of, is_done, done_with, refused_at, answer_in}
 use Rattle.refusal.specs.declared.Later.TheVariants.{PixelOffPage}
 use Rattle.refusal.specs.declared.Refusal.{Refusal}
 use Rattle.refusal.specs.declared.Refusal.TheVariants.{Later}
+use Rattle.refusal.specs.declared.Refused.{Refused}
 use Rattle.ticket.specs.Laws.{Bytes}
 use Rattle.ticket.specs.Reading.{shown}
 use Rattle.ticket.specs.declared.HiddenBox.{HiddenBox}
+use Rattle.ticket.specs.declared.Operation.{Operation}
 use Rattle.ticket.specs.declared.Ticket.{Ticket}
 use Rattle.boxes.specs.Boxes.{hidden, boxes_of}
 use Rattle.boxes.specs.Laws.{InBox}
@@ -22,15 +23,14 @@ use Rattle.filter.specs.Windows.{InWindow}
 use Rattle.job.specs.Order.{line_of}
 use Rattle.job.specs.Job.{finished, answer, lengths, output_after}
 use Rattle.nearby.specs.declared.Pixel.{Pixel}
-use Rattle.why.specs.Reason.{hidden_box, one_pass, two_passes, without_steps, no_reason}
-use Rattle.why.specs.Told.{told}
+use Rattle.why.specs.Reason.{hidden_box, one_pass, two_passes, without_steps}
+use Rattle.why.specs.Told.{told, reason_told}
 use Rattle.why.specs.declared.Reason.{Reason}
-use Rattle.why.specs.declared.Told.{Told}
 use Rattle.demands.specs.Near.{step_at, on_page, IsStep}
 use Rattle.demands.specs.Reach.{AgreeNear}
 
 -- what is told of a pixel of the job on these trays
-abbrev pub told_of : List ℕ → Placements → List ℕ → List ℕ → List ℕ → Pixel → Told
+abbrev pub told_of : List ℕ → Placements → List ℕ → List ℕ → List ℕ → Pixel → Result Reason Refused
 told_of ticket p source out scratch at = told ticket p source (length out) (length scratch) at
 
 -- the pixel that the job makes of it
@@ -52,32 +52,32 @@ pub record PixelOn (p : Placements) (at : Pixel) : Type 0 where
 abbrev pub WhyRefused : Type 0
 WhyRefused =
     (ticket : List ℕ) (p : Placements) (source out scratch : List ℕ) (at : Pixel) (refusal : Refusal) (place : ℕ)
-    → answer ticket p (lengths source out scratch) ≡ Refused refusal place
-    → told_of ticket p source out scratch at ≡ record { answer = Refused refusal place; reason = no_reason }
+    → answer ticket p (lengths source out scratch) ≡ refused_at refusal place
+    → told_of ticket p source out scratch at ≡ Err (record { refusal = refusal; at = place })
 
 -- "Refusals: 19, pixel off the page, after 14, place 0.": where nothing before it is refused and the pixel is off the
 -- page,
 abbrev pub WhyOffPage : Type 0
 WhyOffPage =
     (ticket : List ℕ) (p : Placements) (source out scratch : List ℕ) (work : ℕ) (at : Pixel)
-    → answer ticket p (lengths source out scratch) ≡ Done work
+    → answer ticket p (lengths source out scratch) ≡ done_with work
     → PixelOff p at
-    → told_of ticket p source out scratch at ≡ record { answer = Refused (Later PixelOffPage) 0; reason = no_reason }
+    → told_of ticket p source out scratch at ≡ Err (record { refusal = Later PixelOffPage; at = 0 })
 
 -- and only there;
 abbrev pub WhyNineteen : Type 0
 WhyNineteen =
     (ticket : List ℕ) (p : Placements) (source out scratch : List ℕ) (at : Pixel)
-    → number_of (told_of ticket p source out scratch at).answer ≡ 19
+    → number_of (answer_in (told_of ticket p source out scratch at)) ≡ 19
     → (is_done (answer ticket p (lengths source out scratch)) ≡ true) × PixelOff p at
 
 -- of every pixel of the page of a finished job a reason is told, with no work.
 abbrev pub WhyDone : Type 0
 WhyDone =
     (ticket : List ℕ) (p : Placements) (source out scratch : List ℕ) (work : ℕ) (at : Pixel)
-    → answer ticket p (lengths source out scratch) ≡ Done work
+    → answer ticket p (lengths source out scratch) ≡ done_with work
     → PixelOn p at
-    → (told_of ticket p source out scratch at).answer ≡ Done 0
+    → answer_in (told_of ticket p source out scratch at) ≡ done_with 0
 
 -- ---- "For a hidden pixel, the first box that holds it."
 
@@ -91,10 +91,10 @@ pub record ByBox (t : Ticket) (at : Pixel) (reason : Reason) : Type 0 where
 abbrev pub WhyBox : Type 0
 WhyBox =
     (ticket : List ℕ) (p : Placements) (source out scratch : List ℕ) (work : ℕ) (at : Pixel)
-    → answer ticket p (lengths source out scratch) ≡ Done work
+    → answer ticket p (lengths source out scratch) ≡ done_with work
     → PixelOn p at
     → hidden (boxes_of (shown ticket)) at.column at.row ≡ true
-    → ByBox (shown ticket) at (told_of ticket p source out scratch at).reason
+    → ByBox (shown ticket) at (reason_told (told_of ticket p source out scratch at))
 
 -- ---- the first unhidden step that has the result
 
@@ -152,7 +152,7 @@ pub record ByTwoPasses (t : Ticket) (p : Placement) (page between : ℕ → ℕ 
 pub record Unhidden (ticket : List ℕ) (p : Placements) (source out scratch : List ℕ) (at : Pixel) : Type 0 where
   pub bytes : Bytes ticket
   pub work : ℕ
-  pub done : answer ticket p (lengths source out scratch) ≡ Done work
+  pub done : answer ticket p (lengths source out scratch) ≡ done_with work
   pub on : PixelOn p at
   pub unhidden : hidden (boxes_of (shown ticket)) at.column at.row ≡ false
 
@@ -163,7 +163,7 @@ WhyErosion =
     → Unhidden ticket p source out scratch at
     → (shown ticket).operation ≡ erosion
     → ByOnePass (shown ticket) (source_page p) (pixel_in source (source_page p)) (erosion_back (shown ticket))
-    (came_out ticket p source out scratch at) at (told_of ticket p source out scratch at).reason
+    (came_out ticket p source out scratch at) at (reason_told (told_of ticket p source out scratch at))
 
 abbrev pub WhyDilation : Type 0
 WhyDilation =
@@ -171,10 +171,10 @@ WhyDilation =
     → Unhidden ticket p source out scratch at
     → (shown ticket).operation ≡ dilation
     → ByOnePass (shown ticket) (source_page p) (pixel_in source (source_page p)) (dilation_back (shown ticket))
-    (came_out ticket p source out scratch at) at (told_of ticket p source out scratch at).reason
+    (came_out ticket p source out scratch at) at (reason_told (told_of ticket p source out scratch at))
 
 -- the same ticket with another operation
-unfoldable pub ordering : ℕ → Ticket → Ticket
+unfoldable pub ordering : Operation → Ticket → Ticket
 ordering operation t =
     record {
       operation = operation;
@@ -198,7 +198,7 @@ WhyOpening =
     → ByTwoPasses (shown ticket) (source_page p) (pixel_in source (source_page p))
     (finished (ordering erosion (shown ticket)) (source_page p) source) (erosion_back (shown ticket))
     (dilation_back (shown ticket)) (came_out ticket p source out scratch at) at
-    (told_of ticket p source out scratch at).reason
+    (reason_told (told_of ticket p source out scratch at))
 
 -- "closing does the reverse".
 abbrev pub WhyClosing : Type 0
@@ -209,7 +209,7 @@ WhyClosing =
     → ByTwoPasses (shown ticket) (source_page p) (pixel_in source (source_page p))
     (finished (ordering dilation (shown ticket)) (source_page p) source) (dilation_back (shown ticket))
     (erosion_back (shown ticket)) (came_out ticket p source out scratch at) at
-    (told_of ticket p source out scratch at).reason
+    (reason_told (told_of ticket p source out scratch at))
 
 -- ---- "It may depend on what demand 3 allows for that pixel."
 
@@ -218,14 +218,14 @@ abbrev pub WhySame : Type 0
 WhySame =
     (ticket : List ℕ) (p : Placements) (source source' : List ℕ) (output scratch : ℕ) (at : Pixel)
     → length source ≡ length source'
-    → (told ticket p source output scratch at).answer ≡ (told ticket p source' output scratch at).answer
+    → answer_in (told ticket p source output scratch at) ≡ answer_in (told ticket p source' output scratch at)
 
 -- and where it is a refusal, all that is told.
 abbrev pub WhySameRefused : Type 0
 WhySameRefused =
     (ticket : List ℕ) (p : Placements) (source source' : List ℕ) (output scratch : ℕ) (at : Pixel)
     → length source ≡ length source'
-    → is_done (told ticket p source output scratch at).answer ≡ false
+    → is_done (answer_in (told ticket p source output scratch at)) ≡ false
     → told ticket p source output scratch at ≡ told ticket p source' output scratch at
 
 -- THE REACH of a question, for every ticket, every placement and every pixel: where two sources agree on the unhidden

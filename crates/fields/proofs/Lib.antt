@@ -1,3 +1,2 @@
 mod Divisors
 pub mod Signs
-mod Vectors

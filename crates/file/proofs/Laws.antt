@@ -1,6 +1,6 @@
 -- What a finished job on a file may rely on, in plain facts: nobody above unfolds the judging.
 -- Assumes nothing.
-use Rattle.std.specs.Prelude.{◌≡◌, Bool, true, cond, take}
+use Rattle.std.specs.Prelude.{◌≡◌, Bool, true, cond, Ok, take}
 use Rattle.std.proofs.Math.Path.{refl, sym, ap, ap₂, subst}
 use Rattle.std.proofs.Common.{◌∙◌, mul_comm, suc-mul, length-append, take-append-drop, get_or-take, length-take-le}
 use mathlib.Core.List.{List, ◌++◌, append_assoc}
@@ -8,10 +8,8 @@ use Prim.Native.Nat.{ℕ, suc, ◌+◌, ◌-◌, ◌*◌, ◌≤◌, ◌<◌}
 use native.Mathlib.Omega.{arith}
 use Rattle.std.proofs.Math.ListN.{length, get_or, drop, length-drop}
 use Rattle.std.proofs.Math.Seq.{get_or-drop, get_or-append-add}
-use Rattle.refusal.specs.Answer.{is_done, when_done}
+use Rattle.refusal.specs.Answer.{is_done, Answer, done_with, giving}
 use Rattle.refusal.specs.Chain.{◌then◌, then_work, done_work, when_done_lem}
-use Rattle.refusal.specs.declared.Answer.{Answer}
-use Rattle.refusal.specs.declared.Answer.TheVariants.{Done}
 use Rattle.ticket.specs.Judging as tickets
 use Rattle.ticket.specs.Laws.{Allowed, Bytes, good_allowed}
 use Rattle.ticket.specs.Reading.{shown}
@@ -62,12 +60,12 @@ pub record FinishedFile (ticket file : List ℕ) (n : Lengths) (work : ℕ) : Ty
   pub worked : job_work (shown ticket) (header file).width (header file).height ≡ work
 
 pub finished_file :
-    (ticket file : List ℕ) (n : Lengths) (work : ℕ) → file_answer ticket file n ≡ Done work
+    (ticket file : List ℕ) (n : Lengths) (work : ℕ) → file_answer ticket file n ≡ done_with work
     → FinishedFile ticket file n work
 unfolding file_answer
 finished_file ticket file n work e =
     let places : Answer = judge_places (shown ticket) (places_of (header file)) n in
-    let works : Answer = Done (job_work (shown ticket) (header file).width (header file).height) in
+    let works : Answer = done_with (job_work (shown ticket) (header file).width (header file).height) in
     let ticket_read = then_work (tickets.judged ticket) (pgm.judged file then places then works) work e in
     let file_read = then_work (pgm.judged file) (places then works) work ticket_read.1 in
     let placed = then_work places works work file_read.1 in
@@ -79,7 +77,7 @@ finished_file ticket file n work e =
     }
 
 pub file_allowed :
-    (ticket file : List ℕ) (n : Lengths) (work : ℕ) → Bytes ticket → file_answer ticket file n ≡ Done work
+    (ticket file : List ℕ) (n : Lengths) (work : ℕ) → Bytes ticket → file_answer ticket file n ≡ done_with work
     → Allowed (shown ticket)
 file_allowed ticket file n work bytes e = good_allowed ticket bytes (finished_file ticket file n work e).ticket_read
 
@@ -105,7 +103,7 @@ rows_placed p n close h =
     }
 
 module _ (ticket file out scratch : List ℕ) (work : ℕ)
-    (done : file_answer ticket file (lengths file out scratch) ≡ Done work) where
+    (done : file_answer ticket file (lengths file out scratch) ≡ done_with work) where
   abbrev h : Header
   h = header file
 
@@ -298,13 +296,9 @@ module _ (ticket file out scratch : List ℕ) (work : ℕ)
 
   pub told_back :
       pgm.reading (file_output_after ticket file out scratch)
-      ≡ record {
-        answer = Done 0;
-        header =
-            record { width = h.width; height = h.height; maximum = h.maximum; start = length (header_for h) };
-      }
-  unfolding pgm.reading pgm.shown_at when_done
-  told_back = ap₂ pgm.shown_at reads_back.answered back_header
+      ≡ Ok (record { width = h.width; height = h.height; maximum = h.maximum; start = length (header_for h) })
+  unfolding pgm.reading giving
+  told_back = ap₂ giving reads_back.answered back_header
 
   -- and where its page stands
   pub place_back : source_page (places_of (header (file_output_after ticket file out scratch))) ≡ to

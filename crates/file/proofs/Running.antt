@@ -1,127 +1,74 @@
 -- From the job of what was read to the job on a file. Assumes nothing.
-use mathlib.Core.Path.{◌≡◌, sym, ap, ◌∙◌, subst}
-use mathlib.Core.Bool.{true, false}
+use mathlib.Core.Path.{◌≡◌, sym, ◌∙◌}
 use mathlib.Core.List.{List}
 use Prim.Native.Nat.{ℕ}
-use Rattle.refusal.specs.Answer.{is_done, when_done}
-use Rattle.refusal.specs.Chain.{then_on, then_stop, when_refused}
-use Rattle.refusal.specs.declared.Answer.{Answer}
+use Rattle.std.specs.Prelude.{Result, Ok, Err}
+use Rattle.refusal.specs.Answer.{when_done, Answer, giving}
+use Rattle.refusal.specs.Chain.{◌then◌, then_on, given, not_given}
+use Rattle.refusal.specs.declared.Refused.{Refused}
 use Rattle.ticket.specs.Judging.{judged}
-use Rattle.ticket.specs.Laws.{reading_good}
 use Rattle.ticket.specs.Reading.{shown, reading}
-use Rattle.ticket.specs.declared.Reading as tickets
 use Rattle.ticket.specs.declared.Ticket.{Ticket}
-use Rattle.placement.specs.Placement.{output_page}
-use Rattle.tray.specs.Written.{written, cleared}
 use Rattle.pgm.specs.Reading as pgm
 use Rattle.pgm.specs.declared.Header.{Header}
-use Rattle.pgm.specs.declared.Reading as files
-use Rattle.judging.specs.Pages.{job_scratch}
 use Rattle.job.specs.Job.{lengths}
-use Rattle.file.specs.Delivering.{answer_for, Delivered, RanFile}
-use Rattle.file.specs.FileJob.{header, file_page, file_answer, delivery, file_output_after, file_scratch_after}
-use Rattle.file.specs.Places.{header_for, places_of, file_length, headed}
-use Rattle.file.specs.declared.Delivery.{Delivery}
-use Rattle.file.proofs.Alone.{read_answer, read_header}
-
--- ---- the file read
-
-module _ (t : Ticket) (file output scratch : List ℕ) (r : files.Reading) (is : r ≡ pgm.reading file) where
-  pub file_refused :
-      (told : Delivery) → told ≡ record { answer = r.answer; length = 0 } → is_done r.answer ≡ false
-      → RanFile t file output scratch output scratch told
-  file_refused told so e =
-      subst (RanFile t file output scratch output scratch) (sym so)
-      (record {
-        answered =
-            read_answer file r is
-            ∙ sym (then_stop (pgm.judged file) _ (ap is_done (sym (read_answer file r is)) ∙ e));
-        length_is = sym (when_refused r.answer _ 0 e);
-        written_is = sym (when_refused r.answer _ output e);
-        used_is = sym (when_refused r.answer _ scratch e);
-      })
-
-  pub file_read :
-      is_done r.answer ≡ true → (after used : List ℕ) (told : Delivery)
-      → Delivered t r.header file output scratch after used told
-      → RanFile t file output scratch after used told
-  unfolding file_page
-  file_read e after used told there =
-      let same = read_header file r is e in
-      let mine = subst (λ (h : Header). Delivered t h file output scratch after used told) same there in
-      record {
-        answered = mine.answered ∙ sym (then_on (pgm.judged file) _ (ap is_done (sym (read_answer file r is)) ∙ e));
-        length_is = mine.length_is;
-        written_is = mine.written_is;
-        used_is = mine.used_is;
-      }
-
--- ---- the ticket read
+use Rattle.file.specs.Delivering.{answer_for, Delivered}
+use Rattle.file.specs.FileJob.{header, file_page, file_answer, with_length, delivery}
+use Rattle.file.specs.FileJob.{file_output_after, file_scratch_after}
+use Rattle.file.specs.declared.Finished.{Finished}
+use Rattle.file.proofs.Alone.{header_is}
 
 module _ (ticket file output scratch : List ℕ) where
+  abbrev answer : Answer
+  answer = file_answer ticket file (lengths file output scratch)
+
   -- what the job on a file promises
-  abbrev pub Promised : Delivery → List ℕ → List ℕ → Type 0
-  Promised told after used =
-      (told ≡ delivery ticket file (lengths file output scratch))
-      × ((after ≡ file_output_after ticket file output scratch) × (used ≡ file_scratch_after ticket file output scratch))
+  pub record Promised (told : Result Finished Refused) (after used : List ℕ) : Type 0 where
+    pub answered : told ≡ delivery ticket file (lengths file output scratch)
+    pub written : after ≡ file_output_after ticket file output scratch
+    pub cleared : used ≡ file_scratch_after ticket file output scratch
 
-  abbrev told_with : Answer → Delivery
-  told_with a = record { answer = a; length = when_done a (file_length (header file)) 0 }
+  refused : {e : Refused} {told : Result Finished Refused} → answer ≡ Err e → told ≡ Err e
+      → Promised told output scratch
+  unfolding delivery file_output_after file_scratch_after with_length giving when_done
+  refused is so = record { answered = rw is so; written = rw is; cleared = rw is }
 
-  module _ (r : tickets.Reading) (is : r ≡ reading ticket) where
-    ticket_answer : r.answer ≡ judged ticket
+  pub ticket_refused : {e : Refused} {told : Result Finished Refused} → reading ticket ≡ Err e → told ≡ Err e
+      → Promised told output scratch
+  unfolding reading file_answer ◌then◌
+  ticket_refused r so = refused (rw (not_given (judged ticket) (shown ticket) _ r)) so
+
+  module _ {t : Ticket} (r : reading ticket ≡ Ok t) where
+    ticket_good : (behind : Answer) → (judged ticket then behind) ≡ behind
     unfolding reading
-    ticket_answer = ap (λ (q : tickets.Reading). q.answer) is
+    ticket_good behind = then_on (judged ticket) behind (given (judged ticket) (shown ticket) t r).0
 
-    pub ticket_refused :
-        (told : Delivery) → told ≡ record { answer = r.answer; length = 0 } → is_done r.answer ≡ false
+    ticket_is : t ≡ shown ticket
+    unfolding reading
+    ticket_is = sym (given (judged ticket) (shown ticket) t r).1
+
+    pub file_refused : {e : Refused} {told : Result Finished Refused} → pgm.reading file ≡ Err e → told ≡ Err e
         → Promised told output scratch
-    unfolding delivery file_output_after file_scratch_after file_answer
-    ticket_refused told so e =
-        let same = answered e in
-        let refused = ap is_done (sym same) ∙ e in (
-          so
-              ∙ ap (λ (n : ℕ). record { answer = r.answer; length = n }) (sym (when_refused r.answer _ 0 e))
-              ∙ ap told_with same,
-          (sym (when_refused _ _ output refused), sym (when_refused _ _ scratch refused)),
-        )
-      where
-        answered : is_done r.answer ≡ false → r.answer ≡ file_answer ticket file (lengths file output scratch)
-        answered e = ticket_answer ∙ sym (then_stop (judged ticket) _ (ap is_done (sym ticket_answer) ∙ e))
+    unfolding pgm.reading file_answer ◌then◌
+    file_refused f so =
+        refused (ticket_good _ ∙ rw (not_given (pgm.judged file) (pgm.header_in file) _ f)) so
 
-    module _ (e : is_done r.answer ≡ true) where
-      good : is_done (judged ticket) ≡ true
-      good = ap is_done (sym ticket_answer) ∙ e
+    module _ {h : Header} (f : pgm.reading file ≡ Ok h) where
+      answer_is : answer ≡ answer_for (shown ticket) (header file) (lengths file output scratch)
+      unfolding pgm.reading file_answer answer_for
+      answer_is =
+          let good = (given (pgm.judged file) (pgm.header_in file) h f).0 in
+          ticket_good _ ∙ then_on (pgm.judged file) _ good
 
-      ticket_is : r.ticket ≡ shown ticket
-      ticket_is = ap (λ (q : tickets.Reading). q.ticket) is ∙ reading_good ticket good
-
-      pub ticket_read :
-          (after used : List ℕ) (told : Delivery) → RanFile r.ticket file output scratch after used told
+      pub file_delivered : {told : Result Finished Refused} {after used : List ℕ}
+          → Delivered t h file output scratch after used told
           → Promised told after used
-      unfolding delivery file_output_after file_scratch_after file_answer answer_for
-      ticket_read after used told ran =
-          let mine = subst (λ (t : Ticket). RanFile t file output scratch after used told) ticket_is ran in
-          let same = answered after used told mine in (
-            ap (λ (n : ℕ). record { answer = told.answer; length = n }) mine.length_is ∙ ap told_with same,
-            (
-              mine.written_is
-                  ∙ ap
-                  (λ (a : Answer).
-                  when_done a
-                  (headed (header_for (header file))
-                  (written (output_page (places_of (header file))) (file_page (shown ticket) file) output))
-                  output)
-                  same,
-              mine.used_is
-                  ∙ ap
-                  (λ (a : Answer).
-                  when_done a (cleared (job_scratch (shown ticket) (places_of (header file))) scratch) scratch)
-                  same,
-            ),
-          )
-        where
-          answered :
-              (after used : List ℕ) (told : Delivery) → RanFile (shown ticket) file output scratch after used told
-              → told.answer ≡ file_answer ticket file (lengths file output scratch)
-          answered after used told mine = mine.answered ∙ sym (then_on (judged ticket) _ good)
+      unfolding delivery file_output_after file_scratch_after file_page
+      file_delivered {told} {after} {used} d =
+          let mine : Delivered (shown ticket) (header file) file output scratch after used told =
+          rw (← ticket_is, ← header_is file f) d in
+          record {
+            answered = rw answer_is mine.answered;
+            written = rw answer_is mine.written_is;
+            cleared = rw answer_is mine.used_is;
+          }

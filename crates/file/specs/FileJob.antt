@@ -2,11 +2,10 @@
 -- Document 02, wish 1: "a page with a smaller maximum is filtered as it is, a hidden pixel coming out as that maximum",
 -- "in this order, before 10".
 -- Assumes nothing.
-use Rattle.std.specs.Prelude.{ℕ, List}
-use Rattle.refusal.specs.Answer.{when_done}
+use Rattle.std.specs.Prelude.{ℕ, List, Result, Ok, Err}
+use Rattle.refusal.specs.Answer.{when_done, work_in, Answer, done_with, giving}
 use Rattle.refusal.specs.Chain.{◌then◌}
-use Rattle.refusal.specs.declared.Answer.{Answer}
-use Rattle.refusal.specs.declared.Answer.TheVariants.{Done}
+use Rattle.refusal.specs.declared.Refused.{Refused}
 use Rattle.ticket.specs.Judging as tickets
 use Rattle.ticket.specs.Reading.{shown}
 use Rattle.ticket.specs.declared.Ticket.{Ticket}
@@ -19,7 +18,7 @@ use Rattle.job.specs.Job.{finished_with, job_work, lengths}
 use Rattle.judging.specs.Pages.{job_scratch}
 use Rattle.judging.specs.declared.Lengths.{Lengths}
 use Rattle.file.specs.Places.{header_for, places_of, file_length, headed}
-use Rattle.file.specs.declared.Delivery.{Delivery}
+use Rattle.file.specs.declared.Finished.{Finished}
 
 -- the header as it was read
 abbrev pub header : List ℕ → Header
@@ -35,15 +34,20 @@ file_answer ticket file n =
     tickets.judged ticket
     then pgm.judged file
     then judge_places (shown ticket) (places_of (header file)) n
-    then Done (job_work (shown ticket) (header file).width (header file).height)
+    then done_with (job_work (shown ticket) (header file).width (header file).height)
 
--- the answer, and the length of the file that was written, 0 at a refusal
-unfoldable pub delivery : List ℕ → List ℕ → Lengths → Delivery
-delivery ticket file n =
-    record {
-      answer = file_answer ticket file n;
-      length = when_done (file_answer ticket file n) (file_length (header file)) 0;
-    }
+-- an answer's work and the length of the file that was written, or its refusal
+unfoldable pub with_length : Answer → ℕ → Result Finished Refused
+with_length answer length = giving answer (record { work = work_in answer; length = length })
+
+-- the length that it tells, 0 at a refusal
+unfoldable pub length_in : Result Finished Refused → ℕ
+length_in (Ok finished) = finished.length
+length_in (Err refused) = 0
+
+-- the answer, with the length of the file
+unfoldable pub delivery : List ℕ → List ℕ → Lengths → Result Finished Refused
+delivery ticket file n = with_length (file_answer ticket file n) (file_length (header file))
 
 -- the output: "nothing is written at a refusal, later output bytes keep their values"
 unfoldable pub file_output_after : List ℕ → List ℕ → List ℕ → List ℕ → List ℕ

@@ -11,11 +11,9 @@ mod places;
 pub mod read;
 pub mod run;
 
-use refusal::Answer;
-
-// The answer, and how many bytes were written: the whole file, or 0 at a refusal.
+// A job on a file that is done: its work, and how many bytes were written, the whole file.
 #[derive(Clone, Copy)]
-pub struct Delivery {
-    pub answer: Answer,
+pub struct Finished {
+    pub work: u64,
     pub length: usize,
 }

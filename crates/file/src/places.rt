@@ -21,7 +21,7 @@ pub fn places_of(h: Header) -> Placements
     Placements {
         width: h.width,
         height: h.height,
-        source: source,
-        output: output,
+        source,
+        output,
     }
 }

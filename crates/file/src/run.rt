@@ -4,62 +4,43 @@ ghost use Rattle.std.specs.Prelude.{◌≡◌};
 ghost use Rattle.ticket.specs.Laws.{Allowed};
 ghost use Rattle.job.specs.Job.{lengths};
 ghost use Rattle.file.specs.FileJob.{delivery, file_output_after, file_scratch_after};
-ghost use Rattle.file.specs.Delivering.{Delivered, RanFile};
+ghost use Rattle.file.specs.Delivering.{Delivered};
 
-use super::Delivery;
+use super::Finished;
 use super::places::places_of;
 use heading::write::put_header;
 use pgm::Header;
-use refusal::Answer;
-use refusal::report::is_done;
+use refusal::Refused;
 use ticket::Ticket;
 
-fn refused(answer: Answer) -> Delivery
-    ensures { result ≡ record { answer = answer; length = 0 } }
-{
-    Delivery {
-        answer: answer,
-        length: 0,
-    }
-}
-
 // The job of a ticket and a header that were read.
-fn deliver(t: Ticket, h: Header, file: &[u8], output: &mut [u8], scratch: &mut [u8]) -> Delivery
+fn deliver(
+    t: Ticket,
+    h: Header,
+    file: &[u8],
+    output: &mut [u8],
+    scratch: &mut [u8],
+) -> Result<Finished, Refused>
     requires { Allowed t }
     ensures { Delivered t h file.now output.old scratch.old
         output.new scratch.new result }
 {
     let places = places_of(h);
-    let answer = job::job::run_read(t, h.maximum, places, file, output, scratch);
-    if !is_done(answer) {
-        return refused(answer);
-    }
+    let work = job::job::run_read(t, h.maximum, places, file, output, scratch)?;
     put_header(h.width, h.height, h.maximum, output);
-    let spot = places.output;
-    Delivery {
-        answer: answer,
-        length: spot.offset + h.width * h.height,
-    }
-}
-
-// The job on a file whose ticket was read.
-fn run_read(t: Ticket, file: &[u8], output: &mut [u8], scratch: &mut [u8]) -> Delivery
-    requires { Allowed t }
-    ensures { RanFile t file.now output.old scratch.old
-        output.new scratch.new result }
-{
-    let reading = pgm::read(file);
-    let answer = reading.answer;
-    if !is_done(answer) {
-        return refused(answer);
-    }
-    deliver(t, reading.header, file, output, scratch)
+    let length = places.output.offset + h.width * h.height;
+    Ok(Finished { work, length })
 }
 
 // The job on a file. Every ticket, file and buffer length gets an answer: a finished file, its length and its
 // comparisons, or the first refusal: the ticket's own, then 15 to 17, then 10 to 14. A refused job writes nothing; a
 // finished one writes the file from the output's first byte on, and leaves the scratch it used at zero.
-pub fn run(ticket: &[u8], file: &[u8], output: &mut [u8], scratch: &mut [u8]) -> Delivery
+pub fn run(
+    ticket: &[u8],
+    file: &[u8],
+    output: &mut [u8],
+    scratch: &mut [u8],
+) -> Result<Finished, Refused>
     ensures answered { result ≡ delivery ticket.now file.now
         (lengths file.now output.old scratch.old) }
     ensures written { output.new ≡ file_output_after ticket.now file.now
@@ -67,10 +48,7 @@ pub fn run(ticket: &[u8], file: &[u8], output: &mut [u8], scratch: &mut [u8]) ->
     ensures cleared { scratch.new ≡ file_scratch_after ticket.now file.now
         output.old scratch.old }
 {
-    let reading = ticket::read(ticket);
-    let answer = reading.answer;
-    if !is_done(answer) {
-        return refused(answer);
-    }
-    run_read(reading.ticket, file, output, scratch)
+    let order = ticket::read(ticket)?;
+    let header = pgm::read(file)?;
+    deliver(order, header, file, output, scratch)
 }

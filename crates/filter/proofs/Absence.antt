@@ -38,7 +38,8 @@ module _ (boxes : List HiddenBox) (width height : ℕ) (pixel : ℕ → ℕ → 
 
   -- by its axes, it is absent past the sides
   pub absent_turned : (steep : Bool)
-      → Absent (down_of steep width height) (across_of steep width height) (turned steep (seen boxes width height pixel))
+      → Absent (down_of steep width height) (across_of steep width height)
+      (turned steep (seen boxes width height pixel))
   unfolding turned down_of across_of
   absent_turned true = record { below = λ M m h. seen_low m M h; beside = λ M m h. seen_wide m M h }
   absent_turned false = record { below = λ M m h. seen_wide M m h; beside = λ M m h. seen_low M m h }

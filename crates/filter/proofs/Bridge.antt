@@ -15,7 +15,8 @@ use Rattle.geometry.specs.Number.{in_page}
 use Rattle.geometry.specs.Drift.{falls, drift, mirrored}
 use Rattle.geometry.proofs.Laws.{inside, lands, out_of_page, not_in_page}
 use Rattle.runs.specs.Span.{best, span}
-use Rattle.runs.specs.Grid.{Page, Sized, start_row, line_name, entry, leave, steps, column_at, along, number, line_steps}
+use Rattle.runs.specs.Grid.{Page, Sized, start_row, line_name, entry, leave, steps, column_at, along, number}
+use Rattle.runs.specs.Grid.{line_steps}
 use Rattle.runs.specs.Grid.{windowed_at}
 use Rattle.runs.specs.GridLaws.{on_page_lem, page_on, start_small, number_is, number_below}
 use Rattle.runs.specs.declared.Grid.{Grid}

@@ -1,13 +1,11 @@
 -- One pass over the scratch filters the page that it holds. Assumes nothing.
 use mathlib.Core.Path.{◌≡◌, refl, sym, ap, ap₂, ◌∙◌, subst, subst₂}
-use mathlib.Core.Bool.{Bool, true, false, not, cond}
+use mathlib.Core.Bool.{Bool, true, false, cond}
 use mathlib.Core.Option.{none, some}
 use mathlib.Core.List.{List}
 use Prim.Native.Nat.{ℕ, ◌+◌, ◌*◌, ◌≤◌, ◌<◌, zero-le}
 use native.Mathlib.Nat.{zero-add, mul-le-mul_left, mul-le-mul_right}
 use native.Mathlib.Omega.{arith}
-use lib.Dec.{eqb}
-use borrow.Author.Tests.{eq-eqb, ne_eqb, eqb-false}
 use lib.ListN.{get_or}
 use Rattle.geometry.specs.Drift.{mirrored}
 use Rattle.runs.specs.Grid.{Page, Sized, Tabled, windowed_at}
@@ -15,6 +13,8 @@ use Rattle.runs.specs.Scratch.{size}
 use Rattle.sweep.specs.Sweeps.{RowsHold, Passed}
 use Rattle.runs.specs.declared.Grid.{Grid}
 use Rattle.filter.proofs.Absence.{pass_off}
+use Rattle.ticket.specs.declared.Operation.{Operation}
+use Rattle.ticket.specs.declared.Operation.TheVariants.{Erode, Dilate, Open, Close}
 use Rattle.filter.specs.declared.Recipe.{Recipe}
 use Rattle.tray.specs.Turned.{across_of, down_of, compact_column, compact_at}
 use Rattle.tray.specs.declared.Layout.{Layout}
@@ -25,7 +25,8 @@ use Rattle.filter.specs.Seen.{View, turned}
 use Rattle.filter.specs.Filters.{pass, eroded, dilation_back, dilated, opened, closed, operated, recipe_boxes}
 use Rattle.filter.specs.Work.{pass_work, erosion_work, dilation_work, work_of}
 use Rattle.filter.specs.Engine.{neutral, or_neutral, Absent, Shows, steep_of, falls_of, layout_of, back_of}
-use Rattle.filter.specs.Engine.{passed, pass_cost, grid_of, scratch_place, Held, Fair, PassReady, PassDone}
+use Rattle.filter.specs.Engine.{passed, pass_cost, passed_twice, twice_cost, grid_of, scratch_place, Held, Fair}
+use Rattle.filter.specs.Engine.{PassReady, PassDone}
 use Rattle.filter.proofs.Bridge.{bridge}
 use Rattle.filter.proofs.Charges.{work}
 use Rattle.filter.proofs.Grids.{grid_sized}
@@ -292,71 +293,51 @@ module _ (how : Recipe) (lay : Layout) (laid : lay ≡ layout_of how lay.width l
       (sym (sides_as (steep_of how)).0)
       (sym (sides_as (steep_of how)).1)
 
-  -- what an operation makes and costs, by its number
-  pub record Is (filter : View → View) (work : ℕ) : Type 0 where
-    pub filter_is : (page : View) → filter page ≡ operated how.operation how.segment page
-    pub work_is : work ≡ work_of how.operation how.segment lay.width lay.height
+  -- what an operation makes and costs
+  pub record Is (operation : Operation) (filter : View → View) (work : ℕ) : Type 0 where
+    pub filter_is : (page : View) → filter page ≡ operated operation how.segment page
+    pub work_is : work ≡ work_of operation how.segment lay.width lay.height
 
-  pub erosion_is : how.operation ≡ 1 → Is (passed how true) (pass_cost how lay true)
+  pub erosion_is : Is Erode (passed how true) (pass_cost how lay true)
   unfolding operated work_of
-  erosion_is e =
+  erosion_is = record { filter_is = eroded_is; work_is = eroding_is }
+
+  pub dilation_is : Is Dilate (passed how false) (pass_cost how lay false)
+  unfolding operated work_of
+  dilation_is = record { filter_is = dilated_is; work_is = dilating_is }
+
+  pub opening_is : Is Open (passed_twice how true) (twice_cost how lay true)
+  unfolding operated opened work_of
+  opening_is =
       record {
-        filter_is = λ page. eroded_is page ∙ sym (rw (eq-eqb how.operation 1 e) refl);
-        work_is = eroding_is ∙ sym (rw (eq-eqb how.operation 1 e) refl);
+        filter_is = λ page. dilated_is (passed how true page) ∙ ap (dilated how.segment) (eroded_is page);
+        work_is = ap₂ ◌+◌ eroding_is dilating_is;
       }
 
-  pub dilation_is : how.operation ≡ 2 → Is (passed how false) (pass_cost how lay false)
-  unfolding operated work_of
-  dilation_is e =
-      let not-one = ne_eqb how.operation 1 (λ o. omega arith) in
+  pub closing_is : Is Close (passed_twice how false) (twice_cost how lay false)
+  unfolding operated closed work_of
+  closing_is =
       record {
-        filter_is = λ page. dilated_is page ∙ sym (rw (not-one, eq-eqb how.operation 2 e) refl);
-        work_is = dilating_is ∙ sym (rw (not-one, eq-eqb how.operation 2 e) refl);
+        filter_is = λ page. eroded_is (passed how false page) ∙ ap (eroded how.segment) (dilated_is page);
+        work_is = ap₂ ◌+◌ dilating_is eroding_is;
       }
-
-  module _ (from : 1 ≤ how.operation) (to : how.operation ≤ 4) (one : how.operation ≡ 1 → ⊥)
-      (two : how.operation ≡ 2 → ⊥) where
-    pub two_passes_are :
-        (opens : Bool) → eqb how.operation 3 ≡ opens
-        → Is (λ (page : View). passed how (not opens) (passed how opens page))
-        (pass_cost how lay opens + pass_cost how lay (not opens))
-    unfolding operated opened closed work_of
-    two_passes_are true e =
-        let off-one = ne_eqb how.operation 1 one in
-        let off-two = ne_eqb how.operation 2 two in
-        record {
-          filter_is =
-              λ page. dilated_is (passed how true page) ∙ ap (dilated how.segment) (eroded_is page)
-              ∙ sym (rw (off-one, off-two, e) refl);
-          work_is = ap₂ ◌+◌ eroding_is dilating_is ∙ sym (rw (off-one, off-two, e) refl);
-        }
-    two_passes_are false e =
-        let off-one = ne_eqb how.operation 1 one in
-        let off-two = ne_eqb how.operation 2 two in
-        let off_three : how.operation ≡ 3 → ⊥ = eqb-false how.operation 3 e in
-        let four : how.operation ≡ 4 = omega arith in
-        record {
-          filter_is =
-              λ page. eroded_is (passed how false page) ∙ ap (eroded how.segment) (dilated_is page)
-              ∙ sym (rw (off-one, off-two, e, eq-eqb how.operation 4 four) refl);
-          work_is =
-              ap₂ ◌+◌ dilating_is eroding_is ∙ sym (rw (off-one, off-two, e, eq-eqb how.operation 4 four) refl);
-        }
 
   pub operated_as :
       (F : View → View) (a k : ℕ) (old new : List ℕ) (n : ℕ)
-      → k * (lay.width * lay.height) ≤ 6 * (lay.width * lay.height) → Is F a
+      → k * (lay.width * lay.height) ≤ 6 * (lay.width * lay.height) → {operation : Operation}
+      → how.operation ≡ operation → Is operation F a
       → PassDone how lay F a k old new n
       → PassDone how lay (operated how.operation how.segment)
       (work_of how.operation how.segment lay.width lay.height) 6 old new n
-  operated_as F a k old new n grows is done =
+  operated_as F a k old new n grows e is done =
       record {
         same_length = done.same_length;
         rest = done.rest;
         page =
-            λ page held. subst (λ (p : View). Held how lay.width lay.height p new) (is.filter_is page)
+            λ page held. subst (λ (p : View). Held how lay.width lay.height p new) (is.filter_is page ∙ ap (λ (o : Operation). operated o how.segment page) (sym e))
             (done.page page held);
-        counted = done.counted ∙ is.work_is;
+        counted = done.counted ∙ is.work_is
+            ∙ ap (λ (o : Operation). work_of o how.segment lay.width lay.height) (sym e);
         few = omega (arith, done.few);
       }
 

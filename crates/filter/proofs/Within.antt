@@ -1,6 +1,6 @@
 -- A bound of the page's pixels bounds what a filter makes of them: no pixel comes out above the brightest.
 -- Assumes nothing.
-use Rattle.std.specs.Prelude.{◌≡◌, ◌&&◌, List, ℕ, ◌≤◌, ◌<◌, eqb}
+use Rattle.std.specs.Prelude.{◌≡◌, ◌&&◌, List, ℕ, ◌≤◌, ◌<◌}
 use Rattle.std.proofs.Math.Path.{refl}
 use Rattle.std.proofs.Math.Bool.{Bool, true, false, not, cond, and-eq-true_iff}
 use Rattle.std.proofs.Math.Option.{Option, none, some, some-injective, none-ne-some}
@@ -12,9 +12,11 @@ use Rattle.ticket.specs.declared.HiddenBox.{HiddenBox}
 use Rattle.boxes.specs.Boxes.{hidden}
 use Rattle.filter.specs.Seen.{View, seen, turned, runs_steep}
 use Rattle.filter.specs.Filters.{value_at, on_line, pass, eroded, dilated, opened, closed, operated, filtered}
-use Rattle.filter.specs.Filters.{erosion, dilation, opening, closing, dilation_back}
+use Rattle.filter.specs.Filters.{dilation_back}
 use Rattle.filter.specs.Filters.{or_white, recipe_boxes, filtered_page}
 use Rattle.filter.proofs.Laws.{pass_found}
+use Rattle.ticket.specs.declared.Operation.{Operation}
+use Rattle.ticket.specs.declared.Operation.TheVariants.{Erode, Dilate, Open, Close}
 use Rattle.filter.specs.declared.Recipe.{Recipe}
 use Rattle.filter.specs.declared.Segment.{Segment}
 
@@ -60,21 +62,9 @@ module _ (most : ℕ) where
   pass_within low l a n page small M m w e =
       value_within page small _ _ w (pass_found low l a n page M m w e).there
 
-  either_within : (b : Bool) (one two : View) → Within most one → Within most two → Within most (cond b one two)
-  either_within true one two h k = h
-  either_within false one two h k = k
-
-  none_within : Within most (λ (M m : ℕ). none)
-  unfolding Within
-  none_within M m v e = absurd (none-ne-some v e)
-
-  operated_within : (n : ℕ) (s : Segment) (page : View) → Within most page → Within most (operated n s page)
+  operated_within : (n : Operation) (s : Segment) (page : View) → Within most page → Within most (operated n s page)
   unfolding operated opened closed eroded dilated
-  operated_within n s page small =
-      either_within (eqb n erosion) _ _ (eroded_so page small)
-      (either_within (eqb n dilation) _ _ (dilated_so page small)
-      (either_within (eqb n opening) _ _ (dilated_so _ (eroded_so page small))
-      (either_within (eqb n closing) _ _ (eroded_so _ (dilated_so page small)) none_within)))
+  operated_within n s page small = by n
     where
       eroded_so : (view : View) → Within most view → Within most (eroded s view)
       eroded_so view h = pass_within true s.line s.origin s.length view h
@@ -82,13 +72,20 @@ module _ (most : ℕ) where
       dilated_so : (view : View) → Within most view → Within most (dilated s view)
       dilated_so view h = pass_within false s.line (dilation_back s) s.length view h
 
-  filtered_within : (n : ℕ) (s : Segment) (page : View) → Within most page → Within most (filtered n s page)
+      by : (n : Operation) → Within most (operated n s page)
+      by Erode = eroded_so page small
+      by Dilate = dilated_so page small
+      by Open = dilated_so _ (eroded_so page small)
+      by Close = eroded_so _ (dilated_so page small)
+
+  filtered_within : (n : Operation) (s : Segment) (page : View) → Within most page → Within most (filtered n s page)
   unfolding filtered
   filtered_within n s page small =
       let steep : Bool = runs_steep s.line in
       turned_within steep _ (operated_within n s _ (turned_within steep page small))
 
-  or_white_lem : (white : ℕ) → white ≤ most → (o : Option ℕ) → ((v : ℕ) → o ≡ some v → v ≤ most) → or_white white o ≤ most
+  or_white_lem :
+      (white : ℕ) → white ≤ most → (o : Option ℕ) → ((v : ℕ) → o ≡ some v → v ≤ most) → or_white white o ≤ most
   unfolding or_white
   or_white_lem white bright none small = bright
   or_white_lem white bright (some v) small = small v refl

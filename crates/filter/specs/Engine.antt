@@ -1,7 +1,7 @@
 -- What the code keeps in the scratch: the page in normal form, with the neutral value where a pixel is absent. Nothing
 -- here is needed to read what a filter does (Filters, Promises); the contracts of the functions below it cite it.
 -- Assumes nothing.
-use Rattle.std.specs.Prelude.{◌≡◌, Bool, true, false, List, ℕ, ◌+◌, ◌-◌, ◌*◌, ◌≤◌, ◌<◌, length, get_or}
+use Rattle.std.specs.Prelude.{◌≡◌, Bool, true, false, not, List, ℕ, ◌+◌, ◌-◌, ◌*◌, ◌≤◌, ◌<◌, length, get_or}
 use Rattle.std.proofs.Math.Option.{Option, none, some}
 use Rattle.boxes.specs.Boxes.{hidden}
 use Rattle.geometry.specs.Line.{period}
@@ -64,6 +64,13 @@ abbrev pub pass_cost : Recipe → Layout → Bool → ℕ
 pass_cost how lay low =
     pass_work how.segment.line (compact_height lay) (compact_width lay) how.segment.length
     (back_of how.segment low)
+
+-- two passes, of which the second takes the other extreme
+abbrev pub passed_twice : Recipe → Bool → View → View
+passed_twice how opens page = passed how (not opens) (passed how opens page)
+
+abbrev pub twice_cost : Recipe → Layout → Bool → ℕ
+twice_cost how lay opens = pass_cost how lay opens + pass_cost how lay (not opens)
 
 -- how its page is laid out in the scratch
 abbrev pub layout_of : Recipe → ℕ → ℕ → Layout
@@ -138,8 +145,6 @@ pub record Tables (how : Recipe) (n : ℕ) (profile reaches : List ℕ) : Type 0
 -- the page lies in its buffer, the boxes lie on the page, and the scratch has room for two pages
 pub record Enters (how : Recipe) (from : Placement) (source scratch : ℕ) : Type 0 where
   pub segment : Fair how.segment
-  pub operation_from : 1 ≤ how.operation
-  pub operation_to : how.operation ≤ 4
   pub count_most : how.count ≤ 64
   pub boxes : BoxesLie (recipe_boxes how) (layout_of how from.width from.height)
   pub from_tray : Placed from source

@@ -3,12 +3,14 @@
 -- "hidden pixels are absent in the second pass too". Up to `operated` a page is by its place M on the major axis and m
 -- on the minor one, from `filtered` on by column and row.
 -- Assumes nothing.
-use Rattle.std.specs.Prelude.{ℕ, zero, suc, ◌+◌, ◌-◌, Bool, true, false, cond, List, leb, eqb, take}
+use Rattle.std.specs.Prelude.{ℕ, zero, suc, ◌+◌, ◌-◌, Bool, true, false, cond, List, leb, take}
 use Rattle.std.proofs.Math.Option.{Option, none, some}
 use Rattle.geometry.specs.Line.{landing, step_of, major_at}
 use Rattle.geometry.specs.declared.Line.{Line}
 use Rattle.runs.specs.Span.{chosen}
 use Rattle.ticket.specs.declared.HiddenBox.{HiddenBox}
+use Rattle.ticket.specs.declared.Operation.{Operation}
+use Rattle.ticket.specs.declared.Operation.TheVariants.{Erode, Dilate, Open, Close}
 use Rattle.filter.specs.Seen.{View, seen, turned, runs_steep}
 use Rattle.filter.specs.declared.Recipe.{Recipe}
 use Rattle.filter.specs.declared.Segment.{Segment}
@@ -67,27 +69,27 @@ unfoldable pub closed : Segment → View → View
 closed s page = eroded s (dilated s page)
 
 -- "operation: 1 erode, 2 dilate, 3 open, 4 close"
-abbrev pub erosion : ℕ
-erosion = 1
+abbrev pub erosion : Operation
+erosion = Erode
 
-abbrev pub dilation : ℕ
-dilation = 2
+abbrev pub dilation : Operation
+dilation = Dilate
 
-abbrev pub opening : ℕ
-opening = 3
+abbrev pub opening : Operation
+opening = Open
 
-abbrev pub closing : ℕ
-closing = 4
+abbrev pub closing : Operation
+closing = Close
 
--- every operation by its name; any other number finds nothing, and no ticket that is read has one
-unfoldable pub operated : ℕ → Segment → View → View
-operated n s page =
-    cond (eqb n erosion) (eroded s page)
-    (cond (eqb n dilation) (dilated s page)
-    (cond (eqb n opening) (opened s page) (cond (eqb n closing) (closed s page) (λ (M m : ℕ). none))))
+-- every operation by its name
+unfoldable pub operated : Operation → Segment → View → View
+operated Erode s page = eroded s page
+operated Dilate s page = dilated s page
+operated Open s page = opened s page
+operated Close s page = closed s page
 
 -- the same, by column and row
-unfoldable pub filtered : ℕ → Segment → View → View
+unfoldable pub filtered : Operation → Segment → View → View
 filtered n s page = turned (runs_steep s.line) (operated n s (turned (runs_steep s.line) page))
 
 -- an absent pixel comes out as white

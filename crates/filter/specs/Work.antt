@@ -2,13 +2,15 @@
 -- many pixels the line has, L the length of a block, a how far the window begins before its pixel. "Hidden pixels cost
 -- the same", so nothing here looks at a box. A whole number; the answer carries it in 64 bits.
 -- Assumes nothing.
-use Rattle.std.specs.Prelude.{ℕ, suc, ◌+◌, ◌-◌, cond, eqb}
+use Rattle.std.specs.Prelude.{ℕ, suc, ◌+◌, ◌-◌, cond}
 use Rattle.geometry.specs.Number.{behind, ahead}
 use Rattle.geometry.specs.declared.Line.{Line}
 use Rattle.runs.specs.Block.{rightward, leftward, resulting}
 use Rattle.runs.specs.Scratch.{total}
 use Rattle.filter.specs.Seen.{runs_steep}
-use Rattle.filter.specs.Filters.{erosion, dilation, opening, closing, dilation_back}
+use Rattle.filter.specs.Filters.{dilation_back}
+use Rattle.ticket.specs.declared.Operation.{Operation}
+use Rattle.ticket.specs.declared.Operation.TheVariants.{Erode, Dilate, Open, Close}
 use Rattle.filter.specs.declared.Segment.{Segment}
 
 -- a step of a rightward running extreme, of a leftward one, and a result (sweep, Block)
@@ -33,9 +35,8 @@ dilation_work s w h =
     pass_work s.line (cond (runs_steep s.line) h w) (cond (runs_steep s.line) w h) s.length (dilation_back s)
 
 -- "Opening and closing add their two passes."
-unfoldable pub work_of : ℕ → Segment → ℕ → ℕ → ℕ
-work_of n s w h =
-    cond (eqb n erosion) (erosion_work s w h)
-    (cond (eqb n dilation) (dilation_work s w h)
-    (cond (eqb n opening) (erosion_work s w h + dilation_work s w h)
-    (cond (eqb n closing) (dilation_work s w h + erosion_work s w h) 0)))
+unfoldable pub work_of : Operation → Segment → ℕ → ℕ → ℕ
+work_of Erode s w h = erosion_work s w h
+work_of Dilate s w h = dilation_work s w h
+work_of Open s w h = erosion_work s w h + dilation_work s w h
+work_of Close s w h = dilation_work s w h + erosion_work s w h

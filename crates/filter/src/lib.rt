@@ -12,7 +12,7 @@ pub mod page;
 mod passes;
 
 use geometry::Line;
-use ticket::HiddenBox;
+use ticket::{HiddenBox, Operation};
 
 // What a window is laid along: the line, how many steps a window has, and how many of them lie before the pixel in an
 // erosion.
@@ -23,13 +23,14 @@ pub struct Segment {
     pub origin: usize,
 }
 
-// What is done to a page: 1 erode, 2 dilate, 3 open, 4 close along a segment, with the pixels under the first count
+// What is done to a page: an operation along a segment, with the pixels under the first count
 // boxes absent, and white in their place on the page that comes out.
 #[derive(Clone, Copy)]
 pub struct Recipe {
-    pub operation: usize,
+    pub operation: Operation,
     pub segment: Segment,
     pub white: u8,
+    // Stays: no lent list, since `recipe_of` in job's specs builds this record from a ticket's count and its 64 places.
     pub count: usize,
     pub boxes: [HiddenBox; 64],
 }

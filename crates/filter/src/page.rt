@@ -9,13 +9,6 @@ use super::{Recipe, passes};
 use placement::Placement;
 use tray::Layout;
 
-// A table for the longest side.
-fn no_entries() -> [usize; 8192]
-    ensures { length result ≡ 8192 }
-{
-    [0usize; 8192]
-}
-
 // The profile and the entry table of a line, as long as the page in normal form has rows.
 fn fill_tables(how: Recipe, profile: &mut [usize], reaches: &mut [usize])
     requires { Allowed how.segment.line
@@ -23,8 +16,7 @@ fn fill_tables(how: Recipe, profile: &mut [usize], reaches: &mut [usize])
         × (length reaches.old ≡ length profile.old) }
     ensures { Tables how (length profile.old) profile.new reaches.new }
 {
-    let line = passes::line_of(how);
-    geometry::profile::fill_profile(line, profile);
+    geometry::profile::fill_profile(how.segment.line, profile);
     geometry::entry::fill_reach(profile, reaches);
 }
 
@@ -75,9 +67,7 @@ fn filter_with(
         source.now output.old scratch.old
         output.new scratch.new result }
 {
-    let from = way.from;
-    let to = way.to;
-    let lay = way.lay;
+    let Way { from, to, lay } = way;
     fill_tables(how, profile, reaches);
     let work = filter_in(how, lay, source, from, scratch, profile, reaches);
     turning::turn::page_out(scratch, lay, to, output);
@@ -100,15 +90,12 @@ pub fn filter(
         source.now output.old scratch.old
         output.new scratch.new result }
 {
-    let mut profile = no_entries();
-    let mut reaches = no_entries();
+    // Room for the longest side.
+    let mut profile = [0usize; 8192];
+    let mut reaches = [0usize; 8192];
     let lay = passes::layout_of(how, from.width, from.height);
     let rows = tray::sides::compact_height(lay);
-    let way = Way {
-        from: from,
-        to: to,
-        lay: lay,
-    };
+    let way = Way { from, to, lay };
     filter_with(
         how,
         way,

@@ -6,33 +6,18 @@ ghost use Rattle.filter.specs.Filters.{operated, recipe_boxes};
 ghost use Rattle.filter.specs.Work.{work_of};
 ghost use Rattle.filter.specs.Engine.{neutral, steep_of, falls_of, layout_of, back_of, grid_of, Fair, PassReady};
 ghost use Rattle.filter.specs.Engine.{PassDone};
-ghost use Rattle.filter.specs.Engine.{passed, pass_cost};
+ghost use Rattle.filter.specs.Engine.{passed, pass_cost, passed_twice, twice_cost};
 
 use super::{Recipe, Segment};
-use geometry::Line;
-use hiding::hide_first;
 use runs::Grid;
+use ticket::Operation;
 use tray::Layout;
-
-// The operations, as a ticket numbers them.
-const EROSION: usize = 1;
-
-const DILATION: usize = 2;
-
-const OPENING: usize = 3;
-
-pub fn line_of(how: Recipe) -> Line
-    ensures { result ≡ how.segment.line }
-{
-    let segment = how.segment;
-    segment.line
-}
 
 fn is_steep(how: Recipe) -> bool
     requires { Allowed how.segment.line }
     ensures { result ≡ steep_of how }
 {
-    let line = line_of(how);
+    let line = how.segment.line;
     vectors::is_steep(line.dx, line.dy)
 }
 
@@ -40,7 +25,7 @@ fn does_fall(how: Recipe) -> bool
     requires { Allowed how.segment.line }
     ensures { result ≡ falls_of how }
 {
-    geometry::normal::falls(line_of(how))
+    geometry::normal::falls(how.segment.line)
 }
 
 // How a page of these sides is laid out in the scratch, by the way its lines run.
@@ -51,8 +36,8 @@ pub fn layout_of(how: Recipe, width: usize, height: usize) -> Layout
     Layout {
         steep: is_steep(how),
         falls: does_fall(how),
-        width: width,
-        height: height,
+        width,
+        height,
     }
 }
 
@@ -60,10 +45,7 @@ pub fn layout_of(how: Recipe, width: usize, height: usize) -> Layout
 fn neutral_of(low: bool) -> u8
     ensures { result ≡ neutral low }
 {
-    if low {
-        return 255;
-    }
-    0
+    if low { 255 } else { 0 }
 }
 
 // How far a window begins before its pixel.
@@ -72,27 +54,28 @@ fn back_of(s: Segment, low: bool) -> usize
     ensures { result ≡ back_of s low }
 {
     if low {
-        return s.origin;
+        s.origin
+    } else {
+        s.length - 1 - s.origin
     }
-    s.length - 1 - s.origin
 }
 
 fn grid_of(how: Recipe, lay: Layout, low: bool) -> Grid
     requires { Fair how.segment × (lay ≡ layout_of how lay.width lay.height) }
     ensures { result ≡ grid_of how lay.width lay.height low }
 {
-    let line = line_of(how);
     let segment = how.segment;
+    let line = segment.line;
     let back = back_of(segment, low);
     Grid {
-        line: line,
+        line,
         width: tray::sides::compact_width(lay),
         height: tray::sides::compact_height(lay),
         period: geometry::normal::period_of(line),
-        back: back,
+        back,
         on: segment.length - 1 - back,
         length: segment.length,
-        low: low,
+        low,
     }
 }
 
@@ -101,8 +84,7 @@ pub fn hide_all(how: Recipe, lay: Layout, scratch: &mut [u8], value: u8)
     requires { (how.count ≤ 64) × Hideable (recipe_boxes how) lay (length scratch.old) }
     ensures { BoxesPainted (recipe_boxes how) lay value scratch.old scratch.new }
 {
-    let boxes = how.boxes;
-    hide_first(boxes, how.count, lay, scratch, value);
+    hiding::hide(&how.boxes[..how.count], lay, scratch, value);
 }
 
 // One pass: hidden pixels are absent, every other becomes its window's extreme. It answers the comparisons.
@@ -124,6 +106,24 @@ fn one_pass(
     sweep::rows::pass(g, profile, reaches, scratch)
 }
 
+// Two passes, the first of the lowest or of the highest. It answers the comparisons of both.
+fn two_passes(
+    how: Recipe,
+    lay: Layout,
+    opens: bool,
+    profile: &[usize],
+    reaches: &[usize],
+    scratch: &mut [u8],
+) -> usize
+    requires { PassReady how lay profile.now reaches.now (length scratch.old) }
+    ensures { PassDone how lay (passed_twice how opens) (twice_cost how lay opens) 6
+        scratch.old scratch.new result }
+{
+    let first = one_pass(how, lay, opens, profile, reaches, scratch);
+    let second = one_pass(how, lay, !opens, profile, reaches, scratch);
+    first + second
+}
+
 // The recipe's operation over the page in the scratch. It answers the comparisons.
 pub fn filter_held(
     how: Recipe,
@@ -133,20 +133,14 @@ pub fn filter_held(
     scratch: &mut [u8],
 ) -> usize
     requires pass_ready { PassReady how lay profile.now reaches.now (length scratch.old) }
-    requires le_operation { (1 ≤ how.operation) × (how.operation ≤ 4) }
     ensures { PassDone how lay (operated how.operation how.segment)
         (work_of how.operation how.segment lay.width lay.height) 6
         scratch.old scratch.new result }
 {
-    let operation = how.operation;
-    if operation == EROSION {
-        return one_pass(how, lay, true, profile, reaches, scratch);
+    match how.operation {
+        Operation::Erode => one_pass(how, lay, true, profile, reaches, scratch),
+        Operation::Dilate => one_pass(how, lay, false, profile, reaches, scratch),
+        Operation::Open => two_passes(how, lay, true, profile, reaches, scratch),
+        Operation::Close => two_passes(how, lay, false, profile, reaches, scratch),
     }
-    if operation == DILATION {
-        return one_pass(how, lay, false, profile, reaches, scratch);
-    }
-    let opens = operation == OPENING;
-    let first = one_pass(how, lay, opens, profile, reaches, scratch);
-    let second = one_pass(how, lay, !opens, profile, reaches, scratch);
-    first + second
 }

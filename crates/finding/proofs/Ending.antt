@@ -1,60 +1,48 @@
 -- What ends a search: the first hit found, or places looked over to their end, which is absurd.
 -- Assumes nothing.
-use mathlib.Core.Path.{◌≡◌, sym, ap, ap₂, ◌∙◌}
-use mathlib.Core.Bool.{false}
-use mathlib.Core.List.{List}
-use Prim.Native.Nat.{ℕ, ◌+◌, ◌-◌, ◌≤◌, ◌<◌}
-use native.Mathlib.Omega.{arith}
-use borrow.Author.Count.{below_more}
-use borrow.Author.Tests.{eq-eqb, ne_eqb, eqb-false}
-use lib.Dec.{eqb}
-use lib.ListN.{get_or}
+use Rattle.std.proofs.Common.{◌≡◌, sym, ap, ap₂, ◌∙◌, arith, true, false, ℕ, ◌+◌, ◌-◌, ◌≤◌, ◌<◌, eqb}
+use Rattle.std.proofs.Common.{List, get_or, Option, Some, None, IsSome}
+use Rattle.std.proofs.lemmas.Bool.{false≢true}
+use Rattle.std.specs.Option.{option_eq}
 use Rattle.finding.specs.Row.{absent, first_pass, result_of, through_of, from_of, hit_with, hit_of}
-use Rattle.finding.proofs.Laws.{first_at, HasAt, window_has, result_has}
+use Rattle.finding.proofs.Laws.{first_at, value_same, found_hit, window_has}
 use Rattle.finding.specs.declared.Hit.{Hit}
 use Rattle.finding.specs.declared.Search.{Search}
 
 -- none of the places looked over has the value
-unfoldable pub NoneBefore : (ℕ → ℕ) → ℕ → ℕ → ℕ → Type 0
-NoneBefore value w from to = (k : ℕ) → k < to → from ≤ k → eqb (value k) w ≡ false
+abbrev pub NoneBefore : (ℕ → Option ℕ) → Option ℕ → ℕ → ℕ → Type 0
+NoneBefore value w from to = (k : ℕ) → k < to → from ≤ k → option_eq eqb (value k) w ≡ false
 
-pub none_more :
-    (value : ℕ → ℕ) (w from to : ℕ) → NoneBefore value w from to → (value to ≡ w → ⊥)
-    → NoneBefore value w from (to + 1)
-unfolding NoneBefore
-none_more value w from to before other = below_more _ to before (λ h. ne_eqb (value to) w other)
-
-not_had : (value : ℕ → ℕ) (k n w to : ℕ) → k + n ≤ to → NoneBefore value w k to → HasAt value k n w → ⊥
-unfolding NoneBefore
-not_had value k n w to all none_has one =
-    eqb-false (value one.at) w (none_has one.at (omega arith) one.from) one.there
-
-module _ (s : Search) (row : List ℕ) (grey : ℕ) where
+module _ (s : Search) (row : List (Option ℕ)) where
   -- a place that gives the grey has it in its window
   pub window_ended :
-      (through to : ℕ) → grey < absent → first_pass s row through ≡ grey → through - s.back + s.length ≤ to
-      → NoneBefore (λ j. get_or row j 0) grey (through - s.back) to → ⊥
-  window_ended through to low gives all none_has =
-      not_had _ (through - s.back) s.length grey to all none_has (window_has s row grey low through gives)
+      (grey : Option ℕ) (through : ℕ) → IsSome grey → first_pass s row through ≡ grey
+      → NoneBefore (λ j. get_or row j absent) grey (through - s.back) (through - s.back + s.length) → ⊥
+  window_ended None through found gives none_has = false≢true found
+  window_ended (Some w) through found gives none_has =
+      let one = window_has s row w through gives in
+      false≢true (sym (none_has one.at one.to one.from) ∙ value_same _ (Some w) one.there)
 
   -- the result is given at some place
   pub search_ended :
-      (to : ℕ) → grey < absent → grey ≡ result_of s row → s.from + s.steps ≤ to
-      → NoneBefore (first_pass s row) grey s.from to → ⊥
-  search_ended to low result all none_has =
-      not_had _ s.from s.steps grey to all none_has (result_has s row grey low (sym result))
+      (grey : Option ℕ) → IsSome (result_of s row) → grey ≡ result_of s row
+      → NoneBefore (first_pass s row) grey s.from (s.from + s.steps) → ⊥
+  search_ended grey found result none_has =
+      let hit = found_hit s row found in
+      let has = value_same _ grey (hit.gives ∙ sym result) in
+      false≢true (sym (none_has _ hit.through_to hit.through_from) ∙ has)
 
   pub hit_found :
-      (through from : ℕ) → grey ≡ result_of s row → s.from ≤ through → through < s.from + s.steps
-      → NoneBefore (first_pass s row) grey s.from through → first_pass s row through ≡ grey
+      (grey : Option ℕ) (through from : ℕ) → grey ≡ result_of s row → s.from ≤ through → through < s.from + s.steps
+      → NoneBefore (first_pass s row) grey s.from through → option_eq eqb (first_pass s row through) grey ≡ true
       → through - s.back ≤ from → from < through - s.back + s.length
-      → NoneBefore (λ j. get_or row j 0) grey (through - s.back) from → get_or row from 0 ≡ grey
+      → NoneBefore (λ j. get_or row j absent) grey (through - s.back) from
+      → option_eq eqb (get_or row from absent) grey ≡ true
       → ◌≡◌ {A = Hit} (record { through = through; from = from }) (hit_of s row)
-  unfolding NoneBefore hit_of hit_with through_of from_of
-  hit_found through from result low high before gives first last none_has has =
+  unfolding hit_of hit_with through_of from_of
+  hit_found grey through from result low high before gives first last none_has has =
       let t : through ≡ through_of s row grey =
-      first_at (λ i. eqb (first_pass s row i) grey) s.from s.steps through low high before (eq-eqb _ _ gives) in
+      first_at _ _ _ through low (omega arith) (λ q from below. before q below from) (λ h. gives) in
       let f : from ≡ from_of s row grey through =
-      first_at (λ j. eqb (get_or row j 0) grey) (through - s.back) s.length from first last none_has (eq-eqb _ _ has)
-      in
+      first_at _ _ _ from first (omega arith) (λ q from below. none_has q below from) (λ h. has) in
       ap₂ (λ (i j : ℕ). record { through = i; from = j }) t (f ∙ ap (from_of s row grey) t) ∙ ap (hit_with s row) result

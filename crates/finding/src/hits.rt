@@ -1,5 +1,5 @@
 // The search for the first hit.
-ghost use Rattle.std.specs.Prelude.{◌≡◌, ◌<◌, length};
+ghost use Rattle.std.specs.Prelude.{◌≡◌, length, IsSome};
 ghost use Rattle.finding.specs.Row.{result_of, hit_of};
 ghost use Rattle.finding.specs.Promises.{Fits};
 
@@ -9,27 +9,24 @@ use super::{Hit, Search};
 // "looking over steps .. and stopping at the hit": the first place whose first pass gives the result, and in its own
 // window the first that has it. That the result stands somewhere in the window of a place is not enough: the first pass
 // must give it there.
-pub fn first_hit(s: Search, row: &[u16]) -> Hit
+pub fn first_hit(s: Search, row: &[Option<u16>]) -> Hit
     requires fits { Fits s (length row.now) }
-    requires row_bound { result_of s row.now < 256 }
+    requires row_bound { IsSome (result_of s row.now) }
     ensures { result ≡ hit_of s row.now }
 {
     let grey = result_of(s, row);
-    let mut through = s.from;
-    let mut from: usize = 0;
-    'search: while through < s.from + s.steps {
-        if first_pass(s, row, through) != grey {
-            through += 1;
-            continue;
-        }
-        from = through - s.back;
-        while from < through - s.back + s.length {
-            if row[from] == grey {
-                break 'search;
+    'search: {
+        for through in s.from..s.from + s.steps {
+            if first_pass(s, row, through) != grey {
+                continue;
             }
-            from += 1;
+            let begin = through - s.back;
+            for from in begin..begin + s.length {
+                if row[from] == grey {
+                    break 'search Hit { through, from };
+                }
+            }
         }
-        through += 1;
+        unreachable!()
     }
-    Hit { through, from }
 }

@@ -1,4 +1,4 @@
-// The search for a reason along one line. Its values stand in a row: each is a grey, or 256 where the pixel is absent.
+// The search for a reason along one line. Its values stand in a row: each is a grey, or none where the pixel is absent.
 // A first pass takes the lowest, or highest, of a window of the row; the result is the highest, or lowest, of what the
 // first pass makes of some neighbouring places; and the reason is the first of these places that has the result after
 // the first pass, with the first place of its own window that has it.
@@ -6,16 +6,13 @@
 // here ask). Laws, in proofs/, is what follows.
 //
 //     value     of two values the lower, or the higher
-//     extreme   the extreme of a part of a row, of one first pass, and of all
+//     extreme   the extreme of a window, of one first pass, and of all
 //     hits      the first hit
 #![tactic(auto)]
 
 mod extreme;
 pub mod hits;
 mod value;
-
-// The value of an absent pixel.
-pub const ABSENT: u16 = 256;
 
 // What is looked for: a first pass whose windows have so many places, `back` of them before the place they are laid at,
 // at each of the `steps` places of the row from `from` on.

@@ -17,6 +17,11 @@ use Rattle.geometry.proofs.Laws.{period_forward, inside, inside_in_page, behind_
 use Rattle.geometry.proofs.Laws.{major_near}
 use Rattle.geometry.specs.declared.Line.{Line}
 
+-- a place that the code has computed by whether it found the line to fall
+pub place_found : (l : Line) (W m : ℕ) (f : Bool) (x : ℕ) → f ≡ falls l → x ≡ mirrored f W m
+    → x ≡ mirrored (falls l) W m
+place_found l W m f x e h = h ∙ ap (λ (b : Bool). mirrored b W m) e
+
 -- A pixel at (M, m) of a page with the sides H and W, on a line whose profile is tabled for the whole side. The code
 -- has computed its step t and its place x in normal form.
 module _ {l : Line} {H W M m : ℕ} {profile : List ℕ} (o : OnLine l H W M m profile) (t : ℕ) (et : t ≡ step_of l M) where

@@ -24,15 +24,11 @@ module _ (a b : ℕ) (can : Drawable a b) where
 
   -- a pen at column c
   module _ (p : Pen) (c : ℕ) (at : p ≡ pen_at a b c) where
-    pub pen_column : p.column ≡ c
-    unfolding pen_at
-    pen_column = ap (λ (q : Pen). q.column) at
-
-    pub pen_row : p.row ≡ nearest a b c
+    pen_row : p.row ≡ nearest a b c
     unfolding pen_at
     pen_row = ap (λ (q : Pen). q.row) at
 
-    pub pen_error : p.error ≡ error a b c
+    pen_error : p.error ≡ error a b c
     unfolding pen_at
     pen_error = ap (λ (q : Pen). q.error) at
 

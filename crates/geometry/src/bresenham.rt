@@ -58,6 +58,7 @@ fn step(pen: Pen, major: usize, minor: usize) -> Pen
 }
 
 // The pen at a column, reached from column 0 step by step.
+#[tactic(auto, using(crate::proofs::Pens::pen_start), unfolding(crate::specs::Bresenham::pen_at))]
 fn drawn_to(column: usize, major: usize, minor: usize) -> Pen
     requires drawable { Drawable major minor }
     requires column_bound { column < 16384 }
@@ -68,13 +69,14 @@ fn drawn_to(column: usize, major: usize, minor: usize) -> Pen
         row: 0,
         error: major,
     };
-    while pen.column < column {
+    for _ in 0..column {
         pen = step(pen, major, minor);
     }
     pen
 }
 
 // Fills a table with the size of the shift at each column from 0 on: "With phase i the shift is D(c+i) - D(i)".
+#[tactic(auto, using(crate::proofs::Laws::Nearest::nearest_rises), unfolding(crate::specs::Bresenham::pen_at))]
 pub fn draw(major: usize, minor: usize, phase: usize, table: &mut [usize])
     requires drawable { Drawable major minor }
     requires phase_bound { phase < 255 }
@@ -84,10 +86,8 @@ pub fn draw(major: usize, minor: usize, phase: usize, table: &mut [usize])
 {
     let start = drawn_to(phase, major, minor);
     let mut pen = start;
-    let mut c: usize = 0;
-    while c < table.len() {
-        table[c] = pen.row - start.row;
+    for place in table.iter_mut() {
+        *place = pen.row - start.row;
         pen = step(pen, major, minor);
-        c += 1;
     }
 }

@@ -7,14 +7,13 @@ fn climb(profile: &[usize], v: usize, from: usize) -> usize
     requires { from ≤ length profile.now }
     ensures { Reaches profile.now v from result }
 {
-    let mut s = from;
-    while s < profile.len() {
+    for s in from..profile.len() {
         if v <= profile[s] {
             return s;
         }
-        s += 1;
     }
-    s
+    // Stays: a table of numbers has the length where no step has drifted so far, by the definition of ReachTable.
+    profile.len()
 }
 
 // Fills a table with the first step that has drifted v places, for each v from 0 on: the profile's first entry that is
@@ -25,11 +24,9 @@ pub fn fill_reach(profile: &[usize], reach: &mut [usize])
     ensures entered { FirstEntries profile.now reach.new }
     ensures tabled { ReachTables profile.now reach.new }
 {
-    let mut v: usize = 0;
     let mut s: usize = 0;
-    while v < reach.len() {
+    for (v, place) in reach.iter_mut().enumerate() {
         s = climb(profile, v, s);
-        reach[v] = s;
-        v += 1;
+        *place = s;
     }
 }

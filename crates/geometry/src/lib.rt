@@ -11,6 +11,8 @@ pub mod number;
 pub mod profile;
 
 // A line as a ticket orders it: connected or periodic, along the vector (dx, dy), with a phase.
+// Stays: `Allowed` in the contracts, no ghost field: `line_of` in job's specs builds the line of any ticket, allowed or
+// not, and theorems of demands name it.
 #[derive(Clone, Copy)]
 pub struct Line {
     pub periodic: bool,

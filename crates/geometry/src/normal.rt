@@ -8,6 +8,7 @@ use crate::Line;
 use vectors::{major_of, minor_of};
 
 // Whether a line comes to smaller places as it goes on.
+#[tactic(auto, unfolding(crate::specs::Drift::falls))]
 pub fn falls(line: Line) -> bool
     requires { Allowed line }
     ensures { result ≡ drift.falls line }
@@ -16,6 +17,7 @@ pub fn falls(line: Line) -> bool
 }
 
 // How far one step goes along the major axis.
+#[tactic(auto, unfolding(crate::specs::Line::period))]
 pub fn period_of(line: Line) -> usize
     requires { Allowed line }
     ensures { result ≡ period line }
@@ -28,6 +30,7 @@ pub fn period_of(line: Line) -> usize
 }
 
 // The step of its line at which a pixel stands.
+#[tactic(auto, using(crate::proofs::Laws::period_forward), unfolding(crate::specs::Line::step_of))]
 pub fn step_of(line: Line, major: usize) -> usize
     requires { Allowed line }
     ensures { result ≡ step_of line major }
@@ -36,6 +39,7 @@ pub fn step_of(line: Line, major: usize) -> usize
 }
 
 // The place m of a side w in normal form.
+#[tactic(auto, unfolding(crate::specs::Drift::mirrored))]
 pub fn mirrored(falling: bool, w: usize, m: usize) -> usize
     requires { m < w }
     ensures { result ≡ drift.mirrored falling w m }

@@ -1,18 +1,11 @@
 // The number of a pixel on its line, from the line's two tables: how many of the line's pixels come before it and how
 // many after it.
-ghost use Rattle.std.specs.Prelude.{◌≡◌, ◌-◌, length};
+ghost use Rattle.std.specs.Prelude.{◌≡◌, length};
 ghost use Rattle.geometry.specs.Number.{behind, ahead};
 ghost use Rattle.geometry.specs.Tables.{Entries, LastStep, OnLine, Walks};
 
 use crate::Line;
 use crate::normal::{falls, mirrored, period_of, step_of};
-
-// How many places of drift a line had to make before it could come to place x at a step that has drifted so far.
-fn missing(drift: usize, x: usize) -> usize
-    ensures { result ≡ drift - x }
-{
-    if x <= drift { drift - x } else { 0 }
-}
 
 // How many pixels of its line come before the pixel at `major` and `minor` of a page with the sides h and w.
 pub fn behind_at(
@@ -30,7 +23,8 @@ pub fn behind_at(
 {
     let t = step_of(line, major);
     let x = mirrored(falls(line), w, minor);
-    let v = missing(profile[t], x);
+    // As many places of drift the line had to make before it could come to place x at step t.
+    let v = profile[t].saturating_sub(x);
     t - reach[v]
 }
 
@@ -40,14 +34,13 @@ fn last_step(profile: &[usize], limit: usize, u: usize, p: usize, t: usize, h: u
     requires { Walks profile.now limit u p t h }
     ensures { LastStep profile.now limit u p t h result }
 {
-    let mut s = t;
-    while u + (s + 1) * p < h {
+    let last = (h - 1 - u) / p;
+    for s in t..last {
         if limit <= profile[s + 1] {
             return s;
         }
-        s += 1;
     }
-    s
+    last
 }
 
 // How many pixels of its line come after the pixel at `major` and `minor` of a page with the sides h and w. It walks

@@ -14,11 +14,9 @@ fn add_up(minor: usize, table: &mut [usize])
     ensures multiples { Multiples minor table.new }
 {
     let mut moved: usize = 0;
-    let mut t: usize = 0;
-    while t < table.len() {
-        table[t] = moved;
+    for place in table.iter_mut() {
+        *place = moved;
         moved += minor;
-        t += 1;
     }
 }
 

@@ -1,13 +1,42 @@
--- Digits and lines put into a buffer, store by store. Assumes nothing.
+-- How many digits a number has, and digits and lines put into a buffer, store by store. Assumes nothing.
 use mathlib.Core.Path.{◌≡◌, refl, sym, ap, ◌∙◌}
 use mathlib.Core.List.{List, [], ◌∷◌, ◌++◌}
-use Prim.Native.Nat.{ℕ, suc, ◌+◌, ◌-◌, ◌/◌, ◌%◌, ◌<◌, ◌≤◌}
-use native.Mathlib.Nat.{add-zero, zero-add}
+use Prim.Native.Nat.{ℕ, zero, suc, ◌+◌, ◌-◌, ◌*◌, ◌^◌, ◌/◌, ◌%◌, ◌<◌, ◌≤◌, max}
+use native.Mathlib.Nat.{add-zero, zero-add, pow-succ', one-le-pow}
+use mathlib.Core.Logic.{by_cases}
+use native.Mathlib.Decide.{dec_lt}
 use native.Mathlib.Omega.{arith}
 use lib.ListN.{length, set, drop}
 use lib.Seq.{sets, sets-eq, set_comm}
-use Rattle.heading.specs.Decimal.{decimal_small, decimal_more, length_more, length_line}
+use Rattle.heading.specs.Decimal.{decimal_small, decimal_more, length_small, length_more, some_digit, length_line}
 use Rattle.heading.specs.Writing.{decimal, line, header_of}
+
+-- a number from 10 ^ k on and below the next power has k + 1 digits
+digits_by_power : (k n : ℕ) → 10 ^ k ≤ n → n < 10 * 10 ^ k → k + 1 ≡ length (decimal n)
+digits_by_power zero n h l = omega (arith, length_small n (omega arith))
+digits_by_power (suc k) n h l =
+    let more = pow-succ' 10 k in
+    let some = one-le-pow k 10 (omega arith) in
+    let tenth = digits_by_power k (n / 10) (omega (arith, more)) (omega (arith, more)) in
+    omega (arith, tenth, length_more n (omega (arith, more, some)))
+
+-- 0 has as many as 1
+pub digits_are : (n k : ℕ) → 10 ^ k ≤ max n 1 → max n 1 < 10 * 10 ^ k → k + 1 ≡ length (decimal n)
+digits_are zero k h l = digits_by_power k 1 h l ∙ length_small 1 (omega arith) ∙ sym (length_small 0 (omega arith))
+digits_are (suc n) k h l =
+    let same : max (suc n) 1 ≡ suc n = omega arith in
+    digits_by_power k (suc n) (rw same at h) (rw same at l)
+
+-- whether a number has more digits than one
+pub only_digit : (n : ℕ) → length (decimal n) ≤ 1 → n < 10
+only_digit n h =
+    by_cases (dec_lt n 10)
+    (λ small. small)
+    (λ large. absurd (omega (arith, length_more n (omega arith), some_digit (n / 10))))
+
+pub more_digits : (n : ℕ) → 1 < length (decimal n) → 10 ≤ n
+more_digits n h =
+    by_cases (dec_lt n 10) (λ small. absurd (omega (arith, length_small n small))) (λ large. omega arith)
 
 -- one run of stores behind the other
 sets_append : (xs ys l : List ℕ) (at : ℕ) → sets l at (xs ++ ys) ≡ sets (sets l at xs) (at + length xs) ys

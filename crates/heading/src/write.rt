@@ -6,16 +6,12 @@ ghost use Rattle.heading.specs.Writing.{decimal, line, header_of};
 const NEWLINE: u8 = 10;
 
 // How many decimal digits a number has.
+#[tactic(auto, using(crate::proofs::Stores::digits_are))]
 fn digits_of(number: usize) -> usize
     ensures { result ≡ length (decimal number) }
 {
-    let mut left = number;
-    let mut count: usize = 1;
-    while 10 <= left {
-        left = left / 10;
-        count += 1;
-    }
-    count
+    // 0 has a digit, as 1 has.
+    number.max(1).ilog10() as usize + 1
 }
 
 // The character of a digit.
@@ -32,16 +28,15 @@ fn put_digits(number: usize, at: usize, output: &mut [u8])
     ensures { output.new ≡ sets output.old at (decimal number) }
 {
     let mut left = number;
-    let mut count = digits_of(number);
-    while 10 <= left {
-        count -= 1;
-        output[at + count] = digit(left % 10);
-        left = left / 10;
+    for i in (1..digits_of(number)).rev() {
+        output[at + i] = digit(left % 10);
+        left /= 10;
     }
     output[at] = digit(left);
 }
 
 // A number and its newline from `at` on. The answer is the place behind them.
+#[tactic(auto, using(crate::specs::Decimal::length_line, crate::proofs::Stores::line_put))]
 fn put_line(number: usize, at: usize, output: &mut [u8]) -> usize
     requires { at + length (line (decimal number)) ≤ length output.old }
     ensures place { result ≡ at + length (line (decimal number)) }
@@ -54,6 +49,7 @@ fn put_line(number: usize, at: usize, output: &mut [u8]) -> usize
 }
 
 // How many bytes the header has.
+#[tactic(auto, using(crate::specs::Decimal::most_digits, crate::specs::Decimal::length_header))]
 pub fn header_length(width: usize, height: usize, maximum: u8) -> usize
     ensures { result ≡ length (header_of width height maximum) }
 {

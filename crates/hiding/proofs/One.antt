@@ -12,10 +12,12 @@ use Rattle.tray.specs.declared.Layout.{Layout}
 use Rattle.hiding.specs.Hiding.{BoxesPainted}
 
 pub boxes_painted_one :
-    (boxes : List HiddenBox) (lay : Layout) (value : ℕ) (before one two : List ℕ) → BoxesPainted boxes lay value before one
+    (boxes : List HiddenBox) (lay : Layout) (value : ℕ) (before one two : List ℕ)
+    → BoxesPainted boxes lay value before one
     → BoxesPainted boxes lay value before two → one ≡ two
 boxes_painted_one boxes lay value before one two f g =
-    compact_one lay one two (f.same_length ∙ sym g.same_length) (λ r r_in c c_in. either (hidden boxes c r) r r_in c c_in refl)
+    compact_one lay one two (f.same_length ∙ sym g.same_length)
+    (λ r r_in c c_in. either (hidden boxes c r) r r_in c c_in refl)
     (λ i l. f.rest i l ∙ sym (g.rest i l))
   where
     either :

@@ -2,7 +2,7 @@
 use mathlib.Core.Path.{◌≡◌, refl, sym, ap, ◌∙◌, subst}
 use mathlib.Core.Bool.{Bool, true, false, ◌||◌, or-false, true≢false}
 use mathlib.Core.List.{List, [], ◌∷◌, ◌++◌}
-use Prim.Native.Nat.{ℕ, zero, suc, ◌+◌, ◌≤◌, ◌<◌}
+use Prim.Native.Nat.{ℕ, ◌+◌, ◌≤◌, ◌<◌}
 use native.Mathlib.Numerals.{add-one}
 use native.Mathlib.Omega.{arith}
 use lib.ListN.{length, get_or, take}
@@ -14,7 +14,7 @@ use Rattle.tray.specs.declared.Rectangle.{Rectangle}
 use Rattle.boxes.specs.Boxes.{covers, hidden, box_allowed}
 use Rattle.boxes.specs.Laws.{covers_inside, inside_covers, hidden_append, allowed_lies}
 use Rattle.tray.specs.declared.Layout.{Layout}
-use Rattle.hiding.specs.Hiding.{area, BoxesLie, Hideable, BoxesPainted}
+use Rattle.hiding.specs.Hiding.{BoxesPainted}
 
 -- ---- a box as a rectangle
 
@@ -119,32 +119,3 @@ module _ (lay : Layout) (value : ℕ) where
       subst (λ (l : List HiddenBox). BoxesPainted l lay value old new)
       (sym (ap (λ (i : ℕ). take i boxes) (add-one k) ∙ take-suc boxes k d below))
       (painted_append (take k boxes) (get_or boxes k d ∷ []) old mid new done more)
-
--- ---- what is asked, box by box
-
-lie_one :
-    (boxes : List HiddenBox) (lay : Layout) (k : ℕ) (d : HiddenBox) → BoxesLie boxes lay → k < length boxes
-    → BoxesLie (get_or boxes k d ∷ []) lay
-lie_one boxes lay k d lie below =
-    record {
-      wide = lie.wide;
-      high = lie.high;
-      width_most = lie.width_most;
-      height_most = lie.height_most;
-      each = λ j e h. only j e h;
-    }
-  where
-    only :
-        (j : ℕ) (e : HiddenBox) → j < 1 → box_allowed lay.width lay.height (get_or (get_or boxes k d ∷ []) j e) ≡ true
-    only zero e h = lie.each k d below
-    only (suc j) e h = let z : ⊥ = omega arith in absurd z
-
--- box k may be painted on a page as long as the one that all the boxes are asked of
-pub hideable_one :
-    (boxes : List HiddenBox) (lay : Layout) (k : ℕ) (d : HiddenBox) (bytes now : ℕ) → Hideable boxes lay bytes
-    → k < length boxes → now ≡ bytes → Hideable (get_or boxes k d ∷ []) lay now
-hideable_one boxes lay k d bytes now asked below same =
-    record {
-      lie = lie_one boxes lay k d asked.lie below;
-      room = subst (λ (n : ℕ). area lay ≤ n) (sym same) asked.room;
-    }

@@ -2,7 +2,7 @@
 // Document 01: "The hidden boxes are handed on as one lent list of boxes."
 #![tactic(auto)]
 
-ghost use Rattle.std.specs.Prelude.{◌≡◌, true, ◌∷◌, [], ◌≤◌, length, take};
+ghost use Rattle.std.specs.Prelude.{◌≡◌, true, ◌∷◌, [], ◌≤◌, length};
 ghost use Rattle.tray.specs.Turned.{boxed};
 ghost use Rattle.boxes.specs.Boxes.{box_allowed};
 ghost use Rattle.hiding.specs.Hiding.{Hideable, BoxesPainted};
@@ -37,17 +37,7 @@ pub fn hide(boxes: &[HiddenBox], lay: Layout, page: &mut [u8], value: u8)
     requires { Hideable boxes.now lay (length page.old) }
     ensures { BoxesPainted boxes.now lay value page.old page.new }
 {
-    let mut k: usize = 0;
-    while k < boxes.len() {
-        hide_one(boxes[k], lay, page, value);
-        k += 1;
+    for b in boxes {
+        hide_one(*b, lay, page, value);
     }
-}
-
-// The same with the first count boxes of an array: the array's front is lent.
-pub fn hide_first(boxes: [HiddenBox; 64], count: usize, lay: Layout, page: &mut [u8], value: u8)
-    requires { (count ≤ 64) × Hideable (take count boxes) lay (length page.old) }
-    ensures { BoxesPainted (take count boxes) lay value page.old page.new }
-{
-    hide(&boxes[..count], lay, page, value);
 }

@@ -1,6 +1,5 @@
 -- From judgements that are done to the filter, and from what it leaves to what the job promises. Assumes nothing.
 use mathlib.Core.Path.{◌≡◌, refl, sym, ap, ◌∙◌, subst}
-use mathlib.Core.Bool.{true, false}
 use mathlib.Core.List.{List}
 use mathlib.Core.Logic.{by_cases}
 use Prim.Native.Nat.{ℕ, ◌+◌, ◌*◌, ◌≤◌}
@@ -9,14 +8,13 @@ use native.Mathlib.Decide.{dec_lt}
 use native.Mathlib.Omega.{arith}
 use lib.ListN.{length, get_or}
 use lib.Seq.{ext_get_or}
-use Rattle.refusal.specs.Answer.{is_done, when_done}
-use Rattle.refusal.specs.Chain.{then_on, then_stop, when_refused}
-use Rattle.refusal.specs.declared.Answer.{Answer}
-use Rattle.refusal.specs.declared.Answer.TheVariants.{Done}
+use Rattle.std.specs.Prelude.{Ok, Err}
+use Rattle.refusal.specs.Answer.{when_done, Answer, done_with}
+use Rattle.refusal.specs.Chain.{then_on, then_err, then_ok}
+use Rattle.refusal.specs.declared.Refused.{Refused}
 use Rattle.ticket.specs.Judging.{judged}
-use Rattle.ticket.specs.Laws.{reading_good}
+use Rattle.ticket.specs.Laws.{read_good, read_refused}
 use Rattle.ticket.specs.Reading.{shown, reading}
-use Rattle.ticket.specs.declared.Reading.{Reading}
 use Rattle.ticket.specs.declared.Ticket.{Ticket}
 use Rattle.boxes.specs.Boxes.{boxes_of}
 use Rattle.hiding.specs.Hiding.{BoxesLie}
@@ -94,8 +92,6 @@ module _ (t : Ticket) (p : Placements) (source output scratch : ℕ) (free : Unr
           enters =
               record {
                 segment = segment_fair t free.ticket;
-                operation_from = free.ticket.operation_from;
-                operation_to = free.ticket.operation_to;
                 count_most = free.ticket.count_to;
                 boxes = boxes_lie;
                 from_tray = all_stands.from;
@@ -130,7 +126,8 @@ cleared_same n a b size room rest =
 module _ (t : Ticket) (white : ℕ) (p : Placements) (source output scratch after mid used : List ℕ) (work : ℕ) where
   finished_so :
       Unrefused t p (length source) (length output) (length scratch)
-      → Filtered (recipe_of t white) (source_page p) (output_page p) source output scratch after mid work → used ≡ cleared (job_scratch t p) mid
+      → Filtered (recipe_of t white) (source_page p) (output_page p) source output scratch after mid work
+      → used ≡ cleared (job_scratch t p) mid
       → Finished t white p source output scratch after used work
   unfolding finished_with job_work recipe_of source_page job_scratch
   finished_so free done clear =
@@ -138,7 +135,8 @@ module _ (t : Ticket) (white : ℕ) (p : Placements) (source output scratch afte
         written_is = done.written_is;
         used_is =
             clear
-            ∙ cleared_same (job_scratch t p) mid scratch done.same_length (used_room t p _ _ _ free (job_scratch t p) refl)
+            ∙ cleared_same (job_scratch t p) mid scratch done.same_length
+            (used_room t p _ _ _ free (job_scratch t p) refl)
             (λ i h. done.rest i (room_past i h));
         work_is = done.work_is;
       }
@@ -152,7 +150,8 @@ module _ (t : Ticket) (white : ℕ) (p : Placements) (source output scratch afte
           )
 
   pub finished_all :
-      Unrefused t p (length source) (length output) (length scratch) → (how : Recipe) (from to : Placement) (n : ℕ) → how ≡ recipe_of t white
+      Unrefused t p (length source) (length output) (length scratch)
+      → (how : Recipe) (from to : Placement) (n : ℕ) → how ≡ recipe_of t white
       → from ≡ source_page p → to ≡ output_page p → n ≡ scratch_needed (pages_of t) p.width p.height
       → Filtered how from to source output scratch after mid work → used ≡ cleared n mid
       → Finished t white p source output scratch after used work
@@ -166,74 +165,70 @@ module _ (t : Ticket) (white : ℕ) (p : Placements) (source output scratch afte
 
 -- ---- the job of a ticket that was read
 
-module _ (t : Ticket) (white : ℕ) (p : Placements) (source output scratch : List ℕ) where
-  pub ran_refused :
-      (given : Answer) → given ≡ judge_places t p (lengths source output scratch) → is_done given ≡ false
+module _ (t : Ticket) (white : ℕ) (p : Placements) (source output scratch : List ℕ) {judged : Answer}
+    (is : judged ≡ judge_places t p (lengths source output scratch)) where
+  pub ran_refused : {given : Answer} {refused : Refused} → judged ≡ Err refused → given ≡ Err refused
       → RanRead t white p source output scratch output scratch given
-  ran_refused given is e =
+  unfolding when_done
+  ran_refused was told =
       record {
-        answered = is ∙ sym (then_stop _ _ (ap is_done (sym is) ∙ e));
-        written_is = sym (when_refused given _ output e);
-        used_is = sym (when_refused given _ scratch e);
+        answered = rw (told, ← is, was, then_err) refl;
+        written_is = rw told refl;
+        used_is = rw told refl;
       }
 
   pub ran_done :
-      (given : Answer) → given ≡ judge_places t p (lengths source output scratch) → is_done given ≡ true → (after used : List ℕ) (work : ℕ)
-      → Finished t white p source output scratch after used work → RanRead t white p source output scratch after used (Done work)
+      {passed : ℕ} → judged ≡ Ok passed → (after used : List ℕ) (work : ℕ)
+      → Finished t white p source output scratch after used work
+      → RanRead t white p source output scratch after used (done_with work)
   unfolding when_done
-  ran_done given is e after used work done =
+  ran_done was after used work done =
       record {
-        answered = ap Done done.work_is ∙ sym (then_on _ _ (ap is_done (sym is) ∙ e));
+        answered = rw (← is, was, then_ok) (ap done_with done.work_is);
         written_is = done.written_is;
         used_is = done.used_is;
       }
 
 -- ---- the job
 
-module _ (ticket : List ℕ) (p : Placements) (source output scratch : List ℕ) (r : Reading) (is : r ≡ reading ticket) where
-  read_answer : r.answer ≡ judged ticket
-  unfolding reading
-  read_answer = ap (λ (q : Reading). q.answer) is
+module _ (ticket : List ℕ) (p : Placements) (source output scratch : List ℕ) where
+  module _ {refused : Refused} (is : reading ticket ≡ Err refused) where
+    refused_whole : answer ticket p (lengths source output scratch) ≡ Err refused
+    unfolding answer
+    refused_whole = rw (read_refused ticket refused is, then_err) refl
 
-  pub job_refused :
-      is_done r.answer ≡ false
-      → (r.answer ≡ answer ticket p (lengths source output scratch))
-      × ((output ≡ output_after ticket p source output scratch) × (scratch ≡ scratch_after ticket p source output scratch))
-  unfolding output_after scratch_after answer
-  job_refused e =
-      let same = answered e in
-      let refused = ap is_done (sym same) ∙ e in
-      (same, (sym (when_refused _ _ output refused), sym (when_refused _ _ scratch refused)))
-    where
-      answered : is_done r.answer ≡ false → r.answer ≡ answer ticket p (lengths source output scratch)
-      answered e = read_answer ∙ sym (then_stop (judged ticket) _ (ap is_done (sym read_answer) ∙ e))
+    pub job_refused : {given : Answer} → given ≡ Err refused
+        → (given ≡ answer ticket p (lengths source output scratch))
+        × ((output ≡ output_after ticket p source output scratch)
+        × (scratch ≡ scratch_after ticket p source output scratch))
+    unfolding output_after scratch_after when_done
+    job_refused told = (told ∙ sym refused_whole, (rw refused_whole refl, rw refused_whole refl))
 
-  module _ (e : is_done r.answer ≡ true) where
-    good : is_done (judged ticket) ≡ true
-    good = ap is_done (sym read_answer) ∙ e
-
-    read_ticket : r.ticket ≡ shown ticket
-    read_ticket = ap (λ (q : Reading). q.ticket) is ∙ reading_good ticket good
+  module _ {t : Ticket} (is : reading ticket ≡ Ok t) (after used : List ℕ) (given : Answer) where
+    read_whole : RanRead (shown ticket) white p source output scratch after used given
+        → given ≡ answer ticket p (lengths source output scratch)
+    unfolding answer
+    read_whole ran = ran.answered ∙ sym (then_on (judged ticket) _ (read_good ticket t is).0)
 
     pub job_read :
-        (after used : List ℕ) (given : Answer) → RanRead r.ticket white p source output scratch after used given
+        RanRead t white p source output scratch after used given
         → (given ≡ answer ticket p (lengths source output scratch))
-        × ((after ≡ output_after ticket p source output scratch) × (used ≡ scratch_after ticket p source output scratch))
-    unfolding output_after scratch_after answer
-    job_read after used given ran =
-        let mine = subst (λ (q : Ticket). RanRead q white p source output scratch after used given) read_ticket ran in
-        let same = answered after used given mine in (
+        × ((after ≡ output_after ticket p source output scratch)
+        × (used ≡ scratch_after ticket p source output scratch))
+    unfolding output_after scratch_after
+    job_read ran =
+        let mine =
+        subst (λ (q : Ticket). RanRead q white p source output scratch after used given)
+        (sym (read_good ticket t is).1) ran in
+        let same = read_whole mine in (
           same,
           (
             mine.written_is
                 ∙ ap
-                (λ (a : Answer). when_done a (written (output_page p) (finished (shown ticket) (source_page p) source) output) output)
+                (λ (a : Answer).
+                when_done a (written (output_page p) (finished (shown ticket) (source_page p) source) output) output)
                 same,
-            mine.used_is ∙ ap (λ (a : Answer). when_done a (cleared (job_scratch (shown ticket) p) scratch) scratch) same,
+            mine.used_is
+                ∙ ap (λ (a : Answer). when_done a (cleared (job_scratch (shown ticket) p) scratch) scratch) same,
           ),
         )
-      where
-        answered :
-            (after used : List ℕ) (given : Answer) → RanRead (shown ticket) white p source output scratch after used given
-            → given ≡ answer ticket p (lengths source output scratch)
-        answered after used given mine = mine.answered ∙ sym (then_on (judged ticket) _ good)

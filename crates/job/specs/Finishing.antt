@@ -1,10 +1,8 @@
 -- What the functions below the job ask and promise one another. Nothing here is needed to read what a job does (Job).
 -- Assumes nothing.
 use Rattle.std.specs.Prelude.{◌≡◌, true, List, ℕ}
-use Rattle.refusal.specs.Answer.{is_done, when_done}
+use Rattle.refusal.specs.Answer.{is_done, when_done, Answer, done_with}
 use Rattle.refusal.specs.Chain.{◌then◌}
-use Rattle.refusal.specs.declared.Answer.{Answer}
-use Rattle.refusal.specs.declared.Answer.TheVariants.{Done}
 use Rattle.ticket.specs.Laws.{Allowed}
 use Rattle.ticket.specs.declared.Ticket.{Ticket}
 use Rattle.placement.specs.Placement.{source_page, output_page}
@@ -28,6 +26,6 @@ pub record Finished (t : Ticket) (white : ℕ) (p : Placements) (source output s
 -- what the job of a ticket that was read does
 pub record RanRead (t : Ticket) (white : ℕ) (p : Placements) (source output scratch after used : List ℕ)
     (given : Answer) : Type 0 where
-  pub answered : given ≡ (judge_places t p (lengths source output scratch) then Done (job_work t p.width p.height))
+  pub answered : given ≡ (judge_places t p (lengths source output scratch) then done_with (job_work t p.width p.height))
   pub written_is : after ≡ when_done given (written (output_page p) (finished_with white t (source_page p) source) output) output
   pub used_is : used ≡ when_done given (cleared (job_scratch t p) scratch) scratch

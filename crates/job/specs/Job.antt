@@ -2,10 +2,8 @@
 -- nothing else: "Refusals, places and work: ticket bytes, placements and the three lengths only."
 -- Assumes nothing.
 use Rattle.std.specs.Prelude.{ℕ, List, length}
-use Rattle.refusal.specs.Answer.{when_done}
+use Rattle.refusal.specs.Answer.{when_done, Answer, done_with}
 use Rattle.refusal.specs.Chain.{◌then◌}
-use Rattle.refusal.specs.declared.Answer.{Answer}
-use Rattle.refusal.specs.declared.Answer.TheVariants.{Done}
 use Rattle.ticket.specs.Judging.{judged}
 use Rattle.ticket.specs.Reading.{shown}
 use Rattle.ticket.specs.declared.Ticket.{Ticket}
@@ -35,7 +33,7 @@ job_work t w h = work_of t.operation (segment_of t) w h
 -- refusals 1 to 9 come first, then 10 to 14; a page that nothing refuses is finished
 unfoldable pub answer : List ℕ → Placements → Lengths → Answer
 answer ticket p n =
-    judged ticket then judge_places (shown ticket) p n then Done (job_work (shown ticket) p.width p.height)
+    judged ticket then judge_places (shown ticket) p n then done_with (job_work (shown ticket) p.width p.height)
 
 abbrev pub lengths : List ℕ → List ℕ → List ℕ → Lengths
 lengths source output scratch = record { source = length source; output = length output; scratch = length scratch }

@@ -2,19 +2,16 @@
 -- Assumes nothing.
 use Rattle.std.specs.Prelude.{◌≡◌, refl, true, List, ℕ, ◌≤◌, ◌<◌, length, get_or}
 use Rattle.std.proofs.Common.{ap, ◌∙◌, arith}
-use Rattle.std.proofs.Math.Logic.{by_cases}
-use Rattle.std.proofs.Math.Decide.{dec_le}
 use Rattle.vectors.specs.Vector.{major_of}
 use Rattle.geometry.specs.Drift as lines
 use Rattle.geometry.specs.Drift.{Sound}
 use Rattle.geometry.proofs.Laws.{sound, allowed, phase_allowed_lem}
-use Rattle.refusal.specs.Answer.{is_done}
+use Rattle.refusal.specs.Answer.{is_done, Answer, done_with}
 use Rattle.refusal.specs.Chain.{◌then◌, then_work, done_work, when_done_lem}
-use Rattle.refusal.specs.declared.Answer.{Answer}
-use Rattle.refusal.specs.declared.Answer.TheVariants.{Done}
 use Rattle.ticket.specs.Judging.{judged}
-use Rattle.ticket.specs.Laws.{Allowed, Bytes, good_allowed}
+use Rattle.ticket.specs.Laws.{Allowed, Bytes, good_allowed, kinds}
 use Rattle.ticket.specs.Reading.{shown}
+use Rattle.ticket.specs.declared.LineKind.{LineKind}
 use Rattle.ticket.specs.declared.Ticket.{Ticket}
 use Rattle.boxes.specs.Boxes.{boxes_of}
 use Rattle.placement.specs.Placement.{byte_of, pixel_in, source_page, output_page}
@@ -38,21 +35,21 @@ pub record FinishedJob (ticket : List ℕ) (p : Placements) (n : Lengths) (work 
   pub placed : is_done (judge_places (shown ticket) p n) ≡ true
   pub worked : job_work (shown ticket) p.width p.height ≡ work
 
-pub finished_job : (ticket : List ℕ) (p : Placements) (n : Lengths) (work : ℕ) → answer ticket p n ≡ Done work → FinishedJob ticket p n work
+pub finished_job : (ticket : List ℕ) (p : Placements) (n : Lengths) (work : ℕ) → answer ticket p n ≡ done_with work → FinishedJob ticket p n work
 unfolding answer
 finished_job ticket p n work e =
     let places : Answer = judge_places (shown ticket) p n in
-    let works : Answer = Done (job_work (shown ticket) p.width p.height) in
+    let works : Answer = done_with (job_work (shown ticket) p.width p.height) in
     let read = then_work (judged ticket) (places then works) work e in
     let placed = then_work places works work read.1 in
     record { read = read.0; placed = placed.0; worked = done_work placed.1 }
 
 pub finished_stands :
-    (ticket : List ℕ) (p : Placements) (n : Lengths) (work : ℕ) → answer ticket p n ≡ Done work → Stands (shown ticket) p n
+    (ticket : List ℕ) (p : Placements) (n : Lengths) (work : ℕ) → answer ticket p n ≡ done_with work → Stands (shown ticket) p n
 finished_stands ticket p n work e = stands (shown ticket) p n (finished_job ticket p n work e).placed
 
 pub finished_allowed :
-    (ticket : List ℕ) (p : Placements) (n : Lengths) (work : ℕ) → Bytes ticket → answer ticket p n ≡ Done work → Allowed (shown ticket)
+    (ticket : List ℕ) (p : Placements) (n : Lengths) (work : ℕ) → Bytes ticket → answer ticket p n ≡ done_with work → Allowed (shown ticket)
 finished_allowed ticket p n work bytes e = good_allowed ticket bytes (finished_job ticket p n work e).read
 
 -- ---- the finished page
@@ -65,12 +62,9 @@ line_sound t ok = sound (line_of t) ok.runs
 phase_below : (t : Ticket) → Allowed t → t.phase < major_of t.dx t.dy
 unfolding line_of
 phase_below t ok =
-    by_cases (dec_le t.line 1)
-    (λ h.
-    let one : t.line ≡ 1 = omega (arith, ok.line_from) in
-    phase_allowed_lem t.dx t.dy t.phase ok.runs (ok.connected_phase one))
-    (λ h.
-    let two : t.line ≡ 2 = omega (arith, ok.line_to) in
+    kinds t.line (λ (line : LineKind). t.phase < major_of t.dx t.dy)
+    (λ one. phase_allowed_lem t.dx t.dy t.phase ok.runs (ok.connected_phase one))
+    (λ two.
     let forward : 1 ≤ major_of t.dx t.dy = (sound (line_of t) ok.runs).forward in
     omega (arith, ok.periodic_phase two))
 
@@ -91,7 +85,7 @@ finished_is white t p tray c r = refl
 -- a finished job's output tray has the finished page's pixels
 pub output_pixel :
     (ticket : List ℕ) (p : Placements) (source out scratch : List ℕ) (work : ℕ)
-    → answer ticket p (lengths source out scratch) ≡ Done work → (c r : ℕ) → c < p.width → r < p.height
+    → answer ticket p (lengths source out scratch) ≡ done_with work → (c r : ℕ) → c < p.width → r < p.height
     → pixel_in (output_after ticket p source out scratch) (output_page p) c r
     ≡ finished (shown ticket) (source_page p) source c r
 unfolding output_after output_page pixel_in is_done

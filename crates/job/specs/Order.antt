@@ -2,14 +2,14 @@
 -- Assumes nothing.
 use Rattle.std.specs.Prelude.{ℕ}
 use Rattle.geometry.specs.declared.Line.{Line}
-use Rattle.ticket.specs.Judging.{is_periodic}
+use Rattle.ticket.specs.Reading.{periodic_kind}
 use Rattle.ticket.specs.declared.Ticket.{Ticket}
 use Rattle.filter.specs.declared.Recipe.{Recipe}
 use Rattle.filter.specs.declared.Segment.{Segment}
 
 -- "line: 1 connected (Bresenham), 2 periodic", "vector dx, dy", "phase i"
 unfoldable pub line_of : Ticket → Line
-line_of t = record { periodic = is_periodic t.line; dx = t.dx; dy = t.dy; phase = t.phase }
+line_of t = record { periodic = periodic_kind t.line; dx = t.dx; dy = t.dy; phase = t.phase }
 
 -- "segment length L", "origin o"
 unfoldable pub segment_of : Ticket → Segment

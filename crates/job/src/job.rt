@@ -10,13 +10,15 @@ use judging::Lengths;
 use judging::judge::judge;
 use judging::pages::pages_of;
 use placement::{Placements, place};
-use refusal::Answer;
-use refusal::report::is_done;
+use refusal::Refused;
 use ticket::Ticket;
 
 // "A hidden pixel comes out as 255 in every finished page."
 const WHITE: u8 = 255;
 
+// Stays: source, output and scratch are three parameters: the last two are lent on by `&mut`, as the C interface lends
+// them.
+//
 // A job that nothing refuses: the page filtered into the output tray, and the scratch it used zero again.
 fn finish(
     t: Ticket,
@@ -47,7 +49,7 @@ pub fn run_read(
     source: &[u8],
     output: &mut [u8],
     scratch: &mut [u8],
-) -> Answer
+) -> Result<u64, Refused>
     requires { Allowed t }
     ensures { RanRead t white p source.now output.old scratch.old
         output.new scratch.new result }
@@ -57,12 +59,9 @@ pub fn run_read(
         output: output.len(),
         scratch: scratch.len(),
     };
-    let judged = judge(t, p, n);
-    if !is_done(judged) {
-        return judged;
-    }
+    judge(t, p, n)?;
     let work = finish(t, white, p, source, output, scratch);
-    Answer::Done(work as u64)
+    Ok(work as u64)
 }
 
 // The job. Every ticket, placement and buffer length gets an answer: a finished page and its comparisons, or the
@@ -74,7 +73,7 @@ pub fn run(
     source: &[u8],
     output: &mut [u8],
     scratch: &mut [u8],
-) -> Answer
+) -> Result<u64, Refused>
     ensures answered { result ≡ answer ticket.now p
         (lengths source.now output.old scratch.old) }
     ensures written { output.new ≡ output_after ticket.now p source.now
@@ -82,10 +81,6 @@ pub fn run(
     ensures cleared { scratch.new ≡ scratch_after ticket.now p source.now
         output.old scratch.old }
 {
-    let reading = ticket::read(ticket);
-    let read = reading.answer;
-    if !is_done(read) {
-        return read;
-    }
-    run_read(reading.ticket, WHITE, p, source, output, scratch)
+    let read = ticket::read(ticket)?;
+    run_read(read, WHITE, p, source, output, scratch)
 }

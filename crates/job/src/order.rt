@@ -1,14 +1,18 @@
 // What a ticket orders of the filter.
 ghost use Rattle.std.specs.Prelude.{◌≡◌};
 ghost use Rattle.ticket.specs.Laws.{Allowed};
+ghost use Rattle.ticket.specs.Reading.{periodic_kind};
 ghost use Rattle.job.specs.Order.{line_of, recipe_of};
 
 use filter::{Recipe, Segment};
 use geometry::Line;
-use ticket::Ticket;
+use ticket::{LineKind, Ticket};
 
-// "line: 1 connected (Bresenham), 2 periodic"
-const PERIODIC: usize = 2;
+fn is_periodic(line: LineKind) -> bool
+    ensures { result ≡ periodic_kind line }
+{
+    matches!(line, LineKind::Periodic)
+}
 
 // The line of a ticket that was read.
 pub fn line_of(t: Ticket) -> Line
@@ -16,7 +20,7 @@ pub fn line_of(t: Ticket) -> Line
     ensures { result ≡ line_of t }
 {
     Line {
-        periodic: t.line == PERIODIC,
+        periodic: is_periodic(t.line),
         dx: t.dx,
         dy: t.dy,
         phase: t.phase,
@@ -28,18 +32,17 @@ pub fn recipe_of(t: Ticket, white: u8) -> Recipe
     requires { Allowed t }
     ensures { result ≡ recipe_of t white }
 {
-    let line = line_of(t);
     let segment = Segment {
-        line: line,
+        line: line_of(t),
         length: t.length,
         origin: t.origin,
     };
     let boxes = t.boxes;
     Recipe {
         operation: t.operation,
-        segment: segment,
-        white: white,
+        segment,
+        white,
         count: t.count,
-        boxes: boxes,
+        boxes,
     }
 }

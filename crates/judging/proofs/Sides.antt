@@ -20,5 +20,6 @@ pub scratch_as :
 unfolding judge_sides source_page
 scratch_as t p pages e done =
     let both = unless_done (allowed (source_page p) && allowed (output_page p)) BadSides 0 done in
-    let small = placement.sides_most (source_page p) ((and-eq-true_iff (allowed (source_page p)) (allowed (output_page p))).0 both).0 in
+    let each = (and-eq-true_iff (allowed (source_page p)) (allowed (output_page p))).0 both in
+    let small = placement.sides_most (source_page p) each.0 in
     (omega (arith, pages_most t), small.0, small.1)

@@ -2,9 +2,8 @@
 -- counts.
 -- Assumes nothing.
 use Rattle.std.specs.Prelude.{ℕ, suc, ◌&&◌, List, [], ◌∷◌, leb}
+use Rattle.refusal.specs.Answer.{Answer, done_with}
 use Rattle.refusal.specs.Chain.{unless, ◌then◌}
-use Rattle.refusal.specs.declared.Answer.{Answer}
-use Rattle.refusal.specs.declared.Answer.TheVariants.{Done}
 use Rattle.refusal.specs.declared.Refusal.TheVariants.{BadSides, SourceTooShort, OutputTooShort, ScratchTooShort}
 use Rattle.refusal.specs.declared.Refusal.TheVariants.{BadBox}
 use Rattle.ticket.specs.declared.HiddenBox.{HiddenBox}
@@ -34,8 +33,9 @@ judge_scratch pages w h length = unless (leb (scratch_needed pages w h) length) 
 -- | 14 | box with a zero side or passing the page's edge | box number from 0 |, "over the boxes in order": from the
 -- k-th box on
 unfoldable pub judge_page_boxes_from : ℕ → ℕ → ℕ → List HiddenBox → Answer
-judge_page_boxes_from w h k [] = Done 0
-judge_page_boxes_from w h k (b ∷ boxes) = unless (box_allowed w h b) BadBox k then judge_page_boxes_from w h (suc k) boxes
+judge_page_boxes_from w h k [] = done_with 0
+judge_page_boxes_from w h k (b ∷ boxes) =
+    unless (box_allowed w h b) BadBox k then judge_page_boxes_from w h (suc k) boxes
 
 unfoldable pub judge_page_boxes : ℕ → ℕ → List HiddenBox → Answer
 judge_page_boxes w h boxes = judge_page_boxes_from w h 0 boxes

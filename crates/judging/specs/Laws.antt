@@ -3,10 +3,8 @@
 use Rattle.std.specs.Prelude.{◌≡◌, refl, Bool, true, ◌&&◌, List, [], ◌∷◌, ℕ, zero, suc, ◌≤◌, ◌<◌, leb, length, get_or}
 use Rattle.std.proofs.Common.{sym, ap, ap₂, ◌∙◌, arith, leb-true}
 use Rattle.std.proofs.Math.Bool.{and-eq-true_iff}
-use Rattle.refusal.specs.Answer.{is_done}
+use Rattle.refusal.specs.Answer.{is_done, Answer, done_with}
 use Rattle.refusal.specs.Chain.{unless, ◌then◌, then_done, unless_done}
-use Rattle.refusal.specs.declared.Answer.{Answer}
-use Rattle.refusal.specs.declared.Answer.TheVariants.{Done}
 use Rattle.refusal.specs.declared.Refusal.TheVariants.{BadSides, SourceTooShort, OutputTooShort, ScratchTooShort}
 use Rattle.refusal.specs.declared.Refusal.TheVariants.{BadBox}
 use Rattle.ticket.specs.declared.HiddenBox.{HiddenBox}
@@ -43,7 +41,8 @@ pub boxes_allowed :
 unfolding judge_page_boxes_from
 boxes_allowed w h k [] done i d below = absurd (omega arith)
 boxes_allowed w h k (b ∷ boxes) done zero d below =
-    unless_done (box_allowed w h b) BadBox k (then_done (unless (box_allowed w h b) BadBox k) (judge_page_boxes_from w h (suc k) boxes) done).0
+    unless_done (box_allowed w h b) BadBox k
+    (then_done (unless (box_allowed w h b) BadBox k) (judge_page_boxes_from w h (suc k) boxes) done).0
 boxes_allowed w h k (b ∷ boxes) done (suc i) d below =
     boxes_allowed w h (suc k) boxes
     (then_done (unless (box_allowed w h b) BadBox k) (judge_page_boxes_from w h (suc k) boxes) done).1
@@ -54,7 +53,7 @@ boxes_allowed w h k (b ∷ boxes) done (suc i) d below =
 pub boxes_done :
     (w h k : ℕ) (boxes : List HiddenBox)
     → ((i : ℕ) (d : HiddenBox) → i < length boxes → box_allowed w h (get_or boxes i d) ≡ true)
-    → judge_page_boxes_from w h k boxes ≡ Done 0
+    → judge_page_boxes_from w h k boxes ≡ done_with 0
 unfolding judge_page_boxes_from unless ◌then◌
 boxes_done w h k [] ok = refl
 boxes_done w h k (b ∷ boxes) ok =
@@ -86,7 +85,8 @@ pub record Stands (t : Ticket) (p : Placements) (n : Lengths) : Type 0 where
   pub from : Placed (source_page p) n.source
   pub to : Placed (output_page p) n.output
   pub room : job_scratch t p ≤ n.scratch
-  pub boxes : (i : ℕ) (d : HiddenBox) → i < length (boxes_of t) → box_allowed p.width p.height (get_or (boxes_of t) i d) ≡ true
+  pub boxes : (i : ℕ) (d : HiddenBox) → i < length (boxes_of t)
+      → box_allowed p.width p.height (get_or (boxes_of t) i d) ≡ true
 
 pub stands : (t : Ticket) (p : Placements) (n : Lengths) → is_done (judge_places t p n) ≡ true → Stands t p n
 unfolding judge_places judge_sides judge_source judge_output judge_scratch judge_page_boxes job_scratch
@@ -102,8 +102,12 @@ stands t p n done =
     let sides = unless_done (allowed (source_page p) && allowed (output_page p)) BadSides 0 from-sides.0 in
     let both = (and-eq-true_iff (allowed (source_page p)) (allowed (output_page p))).0 sides in
     record {
-      from = placement.placed (source_page p) n.source both.0 (unless_done (fits (source_page p) n.source) SourceTooShort 0 from-source.0);
-      to = placement.placed (output_page p) n.output both.1 (unless_done (fits (output_page p) n.output) OutputTooShort 0 from-output.0);
+      from =
+          placement.placed (source_page p) n.source both.0
+          (unless_done (fits (source_page p) n.source) SourceTooShort 0 from-source.0);
+      to =
+          placement.placed (output_page p) n.output both.1
+          (unless_done (fits (output_page p) n.output) OutputTooShort 0 from-output.0);
       room =
           leb-true _ _
           (unless_done (leb (scratch_needed (pages_of t) p.width p.height) n.scratch) ScratchTooShort 0 from-scratch.0);

@@ -9,22 +9,21 @@ ghost use Rattle.judging.specs.Judging.{judge_places};
 use super::Lengths;
 use super::pages::pages_of;
 use placement::{Placements, place};
-use refusal::chain::{first_refusal, refuse_unless};
-use refusal::report::is_done;
-use refusal::{Answer, Refusal};
+use refusal::chain::refuse_unless;
+use refusal::{Refusal, Refused};
 use ticket::Ticket;
 
 // 10: both pages are within the limits.
-pub fn judge_sides(p: Placements) -> Answer
+pub fn judge_sides(p: Placements) -> Result<u64, Refused>
     ensures { result ≡ judge_sides p }
 {
     let from = place::is_allowed(place::source_page(p));
     let to = place::is_allowed(place::output_page(p));
-    refuse_unless(from & to, Refusal::BadSides, 0)
+    refuse_unless(from && to, Refusal::BadSides, 0)
 }
 
 // 11: the source page fits its tray.
-pub fn judge_source(p: Placements, length: usize) -> Answer
+pub fn judge_source(p: Placements, length: usize) -> Result<u64, Refused>
     ensures { result ≡ judge_source p length }
 {
     let fits = place::does_fit(place::source_page(p), length);
@@ -32,7 +31,7 @@ pub fn judge_source(p: Placements, length: usize) -> Answer
 }
 
 // 12: the output page fits its tray.
-pub fn judge_output(p: Placements, length: usize) -> Answer
+pub fn judge_output(p: Placements, length: usize) -> Result<u64, Refused>
     ensures { result ≡ judge_output p length }
 {
     let fits = place::does_fit(place::output_page(p), length);
@@ -40,7 +39,12 @@ pub fn judge_output(p: Placements, length: usize) -> Answer
 }
 
 // 13: the scratch has room for so many pages of these sides, which are within their limits.
-pub fn judge_scratch(pages: usize, width: usize, height: usize, length: usize) -> Answer
+pub fn judge_scratch(
+    pages: usize,
+    width: usize,
+    height: usize,
+    length: usize,
+) -> Result<u64, Refused>
     requires { (pages ≤ most_pages) × (width ≤ longest_side) × (height ≤ longest_side) }
     ensures { result ≡ judge_scratch pages width height length }
 {
@@ -49,30 +53,28 @@ pub fn judge_scratch(pages: usize, width: usize, height: usize, length: usize) -
 }
 
 // 14: every box of the ticket lies on the page; the place is the first one that does not.
-pub fn judge_boxes(t: Ticket, width: usize, height: usize) -> Answer
+pub fn judge_boxes(t: Ticket, width: usize, height: usize) -> Result<u64, Refused>
     requires { (t.count ≤ 64) × (length t.boxes ≡ 64) }
     ensures { result ≡ judge_page_boxes width height (boxes_of t) }
 {
-    let first = boxes::first_refused(t, width, height);
-    if first < t.count {
-        return Answer::Refused(Refusal::BadBox, first);
+    match boxes::first_refused(t, width, height) {
+        Some(first) => Err(Refused {
+            refusal: Refusal::BadBox,
+            at: first,
+        }),
+        None => Ok(0),
     }
-    Answer::Done(0)
 }
 
 // The first of refusals 10 to 14; without one it is done, with no work yet. The scratch is judged only for sides
 // within their limits.
-pub fn judge(t: Ticket, p: Placements, n: Lengths) -> Answer
+pub fn judge(t: Ticket, p: Placements, n: Lengths) -> Result<u64, Refused>
     requires { (t.count ≤ 64) × (length t.boxes ≡ 64) }
     ensures { result ≡ judge_places t p n }
 {
-    let sides = judge_sides(p);
-    if !is_done(sides) {
-        return sides;
-    }
-    let source = judge_source(p, n.source);
-    let output = judge_output(p, n.output);
-    let scratch = judge_scratch(pages_of(t), p.width, p.height, n.scratch);
-    let boxes = judge_boxes(t, p.width, p.height);
-    first_refusal(source, first_refusal(output, first_refusal(scratch, boxes)))
+    judge_sides(p)?;
+    judge_source(p, n.source)?;
+    judge_output(p, n.output)?;
+    judge_scratch(pages_of(t), p.width, p.height, n.scratch)?;
+    judge_boxes(t, p.width, p.height)
 }

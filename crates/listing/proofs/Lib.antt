@@ -1,3 +1,1 @@
-pub mod Within
-pub mod Tickets
 pub mod Stores

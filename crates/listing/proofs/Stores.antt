@@ -1,8 +1,7 @@
 -- An answer put into its place, store by store. Assumes nothing.
 use Rattle.std.proofs.Common.{◌≡◌, ℕ, suc, ◌+◌, ◌*◌, List, [], ◌∷◌, set, refl, ap, ◌∙◌, ap₂, arith}
 use lib.Seq.{sets}
-use Rattle.refusal.specs.Answer.{number_of, place_of, work_in}
-use Rattle.refusal.specs.declared.Answer.{Answer}
+use Rattle.refusal.specs.Answer.{number_of, place_of, work_in, Answer}
 use Rattle.listing.specs.Numbers.{told}
 
 three_stores : (l : List ℕ) (at a b c : ℕ) → set (set (set l at a) (at + 1) b) (at + 2) c ≡ sets l at (a ∷ b ∷ c ∷ [])

@@ -2,8 +2,7 @@
 -- back". The document does not say how: as a row of numbers, three for each job. That is decided here.
 -- Assumes nothing.
 use Rattle.std.specs.Prelude.{ℕ, ◌*◌, List, ◌∷◌}
-use Rattle.refusal.specs.Answer.{number_of, place_of, work_in}
-use Rattle.refusal.specs.declared.Answer.{Answer}
+use Rattle.refusal.specs.Answer.{number_of, place_of, work_in, Answer}
 
 -- the numbers of so many jobs, and of 256 answers
 abbrev pub job_numbers : ℕ → ℕ

@@ -4,7 +4,7 @@ ghost use Rattle.std.proofs.lemmas.List.Edits.{sets};
 ghost use Rattle.tray.specs.Written.{cleared};
 ghost use Rattle.listing.specs.Numbers.{answers_needed, told};
 
-use refusal::{Answer, report};
+use refusal::{Refused, report};
 
 // 3 * 256
 pub const ANSWERS: usize = 768;
@@ -16,15 +16,11 @@ pub fn clear(answers: &mut [u64])
     requires { answers_needed ≤ length answers.old }
     ensures { answers.new ≡ cleared answers_needed answers.old }
 {
-    let mut k: usize = 0;
-    while k < ANSWERS {
-        answers[k] = 0;
-        k += 1;
-    }
+    answers[..ANSWERS].fill(0);
 }
 
 // Job k's answer in its place.
-pub fn put(a: Answer, k: usize, answers: &mut [u64])
+pub fn put(a: Result<u64, Refused>, k: usize, answers: &mut [u64])
     requires { 3 * (k + 1) ≤ length answers.old }
     ensures { answers.new ≡ sets answers.old (3 * k) (told a []) }
 {

@@ -4,7 +4,6 @@ ghost use Rattle.listing.specs.Listed.{spot_at, listed_at, ticket_of};
 
 use super::Listed;
 use placement::{Placements, Spot};
-use std::num::wrapping_add_usize;
 
 // Ticket start and length, width and height, source offset and stride, output offset and stride.
 pub const JOB_NUMBERS: usize = 8;
@@ -38,33 +37,29 @@ pub fn job_at(jobs: &[u64], k: usize) -> Listed
     let places = Placements {
         width: number_at(jobs, at + 2),
         height: number_at(jobs, at + 3),
-        source: source,
-        output: output,
+        source,
+        output,
     };
     Listed {
         start: number_at(jobs, at),
         length: number_at(jobs, at + 1),
-        places: places,
+        places,
     }
 }
 
-// Whether a part that starts there, so long, ends within so much room, over whole numbers. The sum may wrap: then it
-// is below the start.
+// Whether a part that starts there, so long, ends within so much room, over whole numbers.
 fn is_within(start: usize, length: usize, room: usize) -> bool
     ensures { result ≡ nat_le (start + length) room }
 {
-    let end = wrapping_add_usize(start, length);
-    (start <= end) & (end <= room)
+    start.checked_add(length).is_some_and(|end| end <= room)
 }
 
 // A job's ticket: its part of the buffer, or none of it where the ticket is not wholly there.
 pub fn ticket_of(tickets: &[u8], job: Listed) -> &[u8]
     ensures { result.now ≡ ticket_of tickets.now job }
 {
-    let start = job.start;
-    if is_within(start, job.length, tickets.len()) {
-        let end = start + job.length;
-        return &tickets[start..end];
+    if is_within(job.start, job.length, tickets.len()) {
+        return &tickets[job.start..job.start + job.length];
     }
-    &tickets[0..0]
+    &[]
 }

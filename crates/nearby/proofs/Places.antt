@@ -4,9 +4,10 @@
 use mathlib.Core.Path.{◌≡◌, refl, sym, ap, ap₂, ◌∙◌}
 use mathlib.Core.Bool.{Bool, true, false}
 use mathlib.Core.Option.{Option}
-use mathlib.Core.Logic.{⊎_elim}
+use mathlib.Core.Logic.{⊎_elim, by_cases}
 use mathlib.Core.List.{List}
-use Prim.Native.Nat.{ℕ, ◌+◌, ◌*◌, ◌-◌, ◌%◌, ◌≤◌, ◌<◌}
+use Prim.Native.Nat.{ℕ, ◌+◌, ◌*◌, ◌-◌, ◌%◌, ◌≤◌, ◌<◌, min}
+use native.Mathlib.Decide.{dec_le, dec_lt}
 use native.Mathlib.Nat.{mod-le, mul-le-mul}
 use native.Mathlib.Omega.{arith}
 use lib.ListN.{length, get_or}
@@ -19,8 +20,19 @@ use Rattle.geometry.proofs.Laws.{period_forward, period_periodic, step_low}
 use Rattle.geometry.specs.declared.Line.{Line}
 use Rattle.nearby.specs.Stand.{step_in, major_in, landed, minor_in}
 use Rattle.nearby.specs.Promises.{Stands, Tabled}
-use Rattle.nearby.specs.Laws.{OnMajor, landed_none, landed_on, landed_past, minor_is, on_major}
+use Rattle.nearby.specs.Laws.{OnMajor, landed_none, landed_on, landed_past, major_before, major_on, major_past}
+use Rattle.nearby.specs.Laws.{minor_is, on_major}
 use Rattle.nearby.specs.declared.Standing.{Standing}
+
+-- a place is on the page's side, or at its end
+pub major_most : (s : Standing) (i : ℕ) → major_in s i ≤ s.high
+major_most s i =
+    by_cases (dec_le s.reach (step_of s.line s.major + i))
+    (λ after.
+    by_cases (dec_lt (major_at s.line s.major (step_in s i)) s.high)
+    (λ low. omega (arith, low, major_on s i after low))
+    (λ past. omega (arith, major_past s i after (omega arith))))
+    (λ before. omega (arith, major_before s i (omega arith)))
 
 period_near : (l : Line) → Allowed l → period l ≤ 255
 period_near l ok = by_kind l.periodic refl
@@ -36,6 +48,9 @@ pub record Stepped (s : Standing) (i t : ℕ) : Type 0 where
   pub stands : Stands s
   pub near : i < 16383
   pub step : t ≡ step_of s.line s.major
+
+pub stepped : {s : Standing} {i t : ℕ} → Stands s → i < 16383 → t ≡ step_of s.line s.major → Stepped s i t
+stepped stands near step = record { stands = stands; near = near; step = step }
 
 module _ {s : Standing} {i t : ℕ} (k : Stepped s i t) where
   sound : Sound s.line
@@ -64,6 +79,14 @@ module _ {s : Standing} {i t : ℕ} (k : Stepped s i t) where
         ap₂ (λ (q n : ℕ). s.major % q + (n + i - s.reach) * q) p-is k.step
         ∙ sym (major_is s.line s.major (step_in s i))
 
+    -- beyond the page it is the side's end
+    pub place_low : s.reach ≤ t + i → min (s.major % p + (t + i - s.reach) * p) s.high ≡ major_in s i
+    place_low after =
+        let here : s.reach ≤ step_of s.line s.major + i = omega (arith, after, k.step) in
+        by_cases (dec_lt (s.major % p + (t + i - s.reach) * p) s.high)
+        (λ low. omega (arith, place_is, major_on s i here (omega (arith, place_is, low))))
+        (λ past. omega (arith, place_is, major_past s i here (omega (arith, place_is, past))))
+
 -- ---- across the line
 
 -- the place is on the page along the line, so the drift of its step is tabled
@@ -71,6 +94,12 @@ pub record Charted (s : Standing) (profile : List ℕ) (i t : ℕ) : Type 0 wher
   pub stepped : Stepped s i t
   pub table : Tabled s profile
   pub low : major_in s i < s.high
+
+pub charted :
+    {s : Standing} {profile : List ℕ} {i t : ℕ} → Stands s → Tabled s profile → (i < 16383) × (major_in s i < s.high)
+    → t ≡ step_of s.line s.major → Charted s profile i t
+charted stands table at step =
+    record { stepped = stepped stands at.0 step; table = table; low = at.1 }
 
 module _ {s : Standing} {profile : List ℕ} {i t : ℕ} (k : Charted s profile i t) where
   abbrev step : ℕ

@@ -1,15 +1,16 @@
 -- A row that a loop fills from the front with what a filter sees.
 -- Assumes nothing.
-use mathlib.Core.Path.{◌≡◌, sym, ap, ◌∙◌}
-use mathlib.Core.List.{List}
-use mathlib.Core.Option.{Option, none, some}
-use Prim.Native.Nat.{ℕ, ◌+◌, ◌<◌}
-use native.Mathlib.Omega.{arith}
+use Rattle.std.proofs.Common.{◌≡◌, sym, ap, ◌∙◌, arith, List, Option, Some, None, ℕ, ◌+◌, ◌<◌, length, get_or, set}
+use Rattle.std.specs.Prelude.{is_some, position}
+use Rattle.std.proofs.Math.Option as maybe
+use Rattle.std.proofs.Math.Option.{none, some}
+use Rattle.std.proofs.lemmas.List.{get_or-set_same, get_or-set_other}
 use borrow.Author.Count.{below_more}
-use lib.ListN.{length, get_or, set}
-use lib.Seq.{get_or-set_same, get_or-set_other}
 use Rattle.ticket.specs.declared.Ticket.{Ticket}
-use Rattle.boxes.specs.Boxes.{boxes_of}
+use Rattle.ticket.specs.declared.HiddenBox.{HiddenBox}
+use Rattle.boxes.specs.Boxes.{answers, hidden, boxes_of}
+use Rattle.boxes.specs.First.{hidden_found}
+use Rattle.boxes.specs.declared.Question.TheVariants.{Holds}
 use Rattle.placement.specs.Placement as placed
 use Rattle.placement.specs.declared.Placement.{Placement}
 use Rattle.filter.specs.Seen.{seen, turned}
@@ -22,18 +23,24 @@ use Rattle.nearby.specs.declared.Standing.{Standing}
 
 -- ---- a value
 
-pub value_none : (o : Option ℕ) → o ≡ none → absent ≡ value_of o
+pub value_none : (o : maybe.Option ℕ) → o ≡ none → None ≡ value_of o
 unfolding value_of
 value_none o e = sym (ap value_of e)
 
-pub value_some : (o : Option ℕ) (v : ℕ) → o ≡ some v → v ≡ value_of o
+pub value_some : (o : maybe.Option ℕ) (v : ℕ) → o ≡ some v → Some v ≡ value_of o
 unfolding value_of
 value_some o v e = sym (ap value_of e)
+
+-- a box that answers is one that hides
+pub found_hides : (boxes : List HiddenBox) (c r : ℕ) {found : Option ℕ} → found ≡ position (answers (Holds c r)) boxes
+    → is_some found ≡ hidden boxes c r
+unfolding answers
+found_hides boxes c r is = ap is_some is ∙ hidden_found boxes c r
 
 -- ---- the row
 
 -- the value that belongs at place i of the row
-abbrev pub belongs : Ticket → Standing → Placement → List ℕ → ℕ → ℕ
+abbrev pub belongs : Ticket → Standing → Placement → List ℕ → ℕ → Option ℕ
 belongs t s p tray i =
     value_of (near_at s (turned s.steep (seen (boxes_of t) p.width p.height (placed.pixel_in tray p))) i)
 
@@ -41,7 +48,7 @@ belongs t s p tray i =
 pub value_near :
     (t : Ticket) (s : Standing) (p : Placement) (tray : List ℕ) (n i : ℕ) → OfPage t s p n
     → (at : Pixel) → at ≡ pixel_in s i
-    → (v : ℕ)
+    → (v : Option ℕ)
     → v ≡ value_of (seen (boxes_of t) p.width p.height (placed.pixel_in tray p) at.column at.row)
     → v ≡ belongs t s p tray i
 value_near t s p tray n i page at at-is v v-is =
@@ -54,11 +61,11 @@ value_near t s p tray n i page at at-is v v-is =
 
 -- one more entry is right
 pub store_more :
-    (f : ℕ → ℕ) (xs : List ℕ) (i v : ℕ) → i < length xs → v ≡ f i → ((k : ℕ) → k < i → get_or xs k 0 ≡ f k)
-    → (k : ℕ) → k < i + 1 → get_or (set xs i v) k 0 ≡ f k
+    (f : ℕ → Option ℕ) (xs : List (Option ℕ)) (i : ℕ) (v : Option ℕ) → i < length xs → v ≡ f i
+    → ((k : ℕ) → k < i → get_or xs k absent ≡ f k) → (k : ℕ) → k < i + 1 → get_or (set xs i v) k absent ≡ f k
 store_more f xs i v h here before =
     below_more
-    (λ (k : ℕ). get_or (set xs i v) k 0 ≡ f k)
+    (λ (k : ℕ). get_or (set xs i v) k absent ≡ f k)
     i
-    (λ k j. get_or-set_other xs i k v 0 (omega arith) ∙ before k j)
-    (get_or-set_same xs i v 0 h ∙ here)
+    (λ k j. get_or-set_other xs i k v absent (omega arith) ∙ before k j)
+    (get_or-set_same xs i v absent h ∙ here)

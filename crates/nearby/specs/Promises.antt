@@ -1,6 +1,6 @@
 -- What the functions of a row ask and promise.
 -- Assumes nothing.
-use Rattle.std.specs.Prelude.{◌≡◌, List, ℕ, ◌≤◌, ◌<◌, length, get_or}
+use Rattle.std.specs.Prelude.{◌≡◌, List, ℕ, ◌≤◌, ◌<◌, length, get_or, Option}
 use Rattle.geometry.specs.Drift.{Allowed}
 use Rattle.geometry.specs.Tables.{ProfileTable}
 use Rattle.ticket.specs.declared.Ticket.{Ticket}
@@ -9,7 +9,7 @@ use Rattle.placement.specs.Placement.{Placed, pixel_in}
 use Rattle.placement.specs.declared.Placement.{Placement}
 use Rattle.tray.specs.Turned.{down_of, across_of}
 use Rattle.filter.specs.Seen.{seen, turned, runs_steep}
-use Rattle.finding.specs.Row.{value_of}
+use Rattle.finding.specs.Row.{absent, value_of}
 use Rattle.nearby.specs.Stand.{near_at}
 use Rattle.nearby.specs.declared.Standing.{Standing}
 
@@ -36,7 +36,7 @@ pub record OfPage (t : Ticket) (s : Standing) (p : Placement) (bytes : ℕ) : Ty
   pub count_near : t.count ≤ 64
 
 -- the row has what a filter sees near the pixel
-pub record RowNear (t : Ticket) (s : Standing) (p : Placement) (tray row : List ℕ) : Type 0 where
+pub record RowNear (t : Ticket) (s : Standing) (p : Placement) (tray : List ℕ) (row : List (Option ℕ)) : Type 0 where
   pub near : (i : ℕ) → i < length row
-      → get_or row i 0
+      → get_or row i absent
       ≡ value_of (near_at s (turned s.steep (seen (boxes_of t) p.width p.height (pixel_in tray p))) i)

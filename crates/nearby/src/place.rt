@@ -1,4 +1,6 @@
 // Which pixel stands at a place of the row.
+// Stays: a place off the page where there is none, no Option: the definitions `major_in`, `minor_in` and `pixel_in` give
+// it, and laws of `why` name it.
 ghost use Rattle.std.specs.Prelude.{◌≡◌, ◌<◌};
 ghost use Rattle.nearby.specs.Stand.{major_in, minor_in, pixel_in};
 ghost use Rattle.nearby.specs.Promises.{Stands, Tabled};
@@ -16,11 +18,12 @@ fn major_in(s: Standing, i: usize) -> usize
     let line = s.line;
     let t = step_of(line, s.major);
     if t + i < s.reach {
-        return s.high;
+        s.high
+    } else {
+        let p = period_of(line);
+        let place = s.major % p + (t + i - s.reach) * p;
+        place.min(s.high)
     }
-    let p = period_of(line);
-    let place = s.major % p + (t + i - s.reach) * p;
-    if place < s.high { place } else { s.high }
 }
 
 // The place on the other axis, or the page's other side where the line is off it: in normal form the line goes up by
@@ -35,14 +38,11 @@ fn minor_in(s: Standing, profile: &[usize], i: usize) -> usize
     let t = step_of(line, s.major);
     let falling = falls(line);
     let up = mirrored(falling, s.wide, s.minor) + profile[t + i - s.reach];
-    let from = profile[t];
-    if up < from {
-        return s.wide;
+    match up.checked_sub(profile[t]) {
+        None => s.wide,
+        Some(place) if place < s.wide => mirrored(falling, s.wide, place),
+        Some(_) => s.wide,
     }
-    if up - from < s.wide {
-        return mirrored(falling, s.wide, up - from);
-    }
-    s.wide
 }
 
 // The pixel at place i of the row; where there is none, one that is off the page.
@@ -53,13 +53,11 @@ pub fn pixel_in(s: Standing, profile: &[usize], i: usize) -> Pixel
     ensures { result ≡ pixel_in s i }
 {
     let major = major_in(s, i);
-    if s.high <= major {
-        return Pixel {
-            column: down_of(s.steep, s.high, s.wide),
-            row: across_of(s.steep, s.high, s.wide),
-        };
-    }
-    let minor = minor_in(s, profile, i);
+    let minor = if major < s.high {
+        minor_in(s, profile, i)
+    } else {
+        s.wide
+    };
     Pixel {
         column: down_of(s.steep, major, minor),
         row: across_of(s.steep, major, minor),

@@ -1,6 +1,5 @@
 // The values of the row.
 ghost use Rattle.std.specs.Prelude.{◌≡◌, ◌≤◌, length};
-ghost use Rattle.boxes.specs.Boxes.{boxes_of};
 ghost use Rattle.placement.specs.Placement as placed;
 ghost use Rattle.filter.specs.Seen.{seen};
 ghost use Rattle.finding.specs.Row.{value_of};
@@ -8,29 +7,26 @@ ghost use Rattle.nearby.specs.Promises.{Stands, Tabled, OfPage, RowNear};
 
 use super::place::pixel_in;
 use super::{Pixel, Standing};
-use finding::ABSENT;
+use boxes::Question;
 use placement::Placement;
-use ticket::Ticket;
+use ticket::{HiddenBox, Ticket};
 
-// What a filter sees at a pixel that may be off the page: its grey, or that it is absent.
-fn value_at(t: Ticket, source: &[u8], from: Placement, at: Pixel) -> u16
-    requires placed { placed.Placed from (length source.now) }
-    requires count_bound { t.count ≤ 64 }
-    ensures { result ≡ value_of (seen (boxes_of t) from.width from.height
+// What a filter sees at a pixel that may be off the page: its grey, or nothing where it is absent. The boxes are lent:
+// a ticket's would be copied for each pixel.
+fn value_at(boxes: &[HiddenBox], source: &[u8], from: Placement, at: Pixel) -> Option<u16>
+    requires { placed.Placed from (length source.now) }
+    ensures { result ≡ value_of (seen boxes.now from.width from.height
         (placed.pixel_in source.now from) at.column at.row) }
 {
-    if from.width <= at.column {
-        return ABSENT;
+    let Pixel { column, row } = at;
+    if from.width <= column || from.height <= row {
+        None
+    } else if boxes::first(boxes, Question::Holds { column, row }).is_some() {
+        None
+    } else {
+        let part = tray::row::row(source, from, row);
+        Some(part[column] as u16)
     }
-    if from.height <= at.row {
-        return ABSENT;
-    }
-    if boxes::hides(t, at.column, at.row) {
-        return ABSENT;
-    }
-    let column = at.column;
-    let part = tray::row::row(source, from, at.row);
-    part[column] as u16
 }
 
 // Fills a row with the values near a pixel.
@@ -40,7 +36,7 @@ pub fn fill_row(
     source: &[u8],
     from: Placement,
     profile: &[usize],
-    row: &mut [u16],
+    row: &mut [Option<u16>],
 )
     requires stands { Stands s }
     requires tabled { Tabled s profile.now }
@@ -49,10 +45,8 @@ pub fn fill_row(
     ensures same_length { length row.new ≡ length row.old }
     ensures filled { RowNear t s from source.now row.new }
 {
-    let mut i: usize = 0;
-    while i < row.len() {
-        let at = pixel_in(s, profile, i);
-        row[i] = value_at(t, source, from, at);
-        i += 1;
+    let boxes = &t.boxes[..t.count];
+    for (i, value) in row.iter_mut().enumerate() {
+        *value = value_at(boxes, source, from, pixel_in(s, profile, i));
     }
 }

@@ -28,9 +28,9 @@ pub fn standing_of(line: Line, reach: usize, width: usize, height: usize, at: Pi
 {
     let steep = vectors::is_steep(line.dx, line.dy);
     Standing {
-        line: line,
-        steep: steep,
-        reach: reach,
+        line,
+        steep,
+        reach,
         high: down_of(steep, width, height),
         wide: across_of(steep, width, height),
         major: down_of(steep, at.column, at.row),

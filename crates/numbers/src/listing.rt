@@ -10,76 +10,62 @@ use geometry::profile::fill_profile;
 use std::io;
 use vectors::is_steep;
 
-// Prints the two numbers of a pixel.
-fn print_numbers(rt: &impl Print, behind: usize, ahead: usize) -> io::Result<()> {
-    print!(rt; "{behind}/{ahead}")
-}
-
-// Prints the numbers of the pixel at column c and row r.
-fn print_pixel(
-    rt: &impl Print,
+// A page, and a line with its tables for the page.
+#[derive(Clone, Copy, Drop)]
+struct Page<'a> {
     line: Line,
-    profile: &[usize],
-    reach: &[usize],
+    profile: &'a [usize],
+    reach: &'a [usize],
     w: usize,
     h: usize,
-    c: usize,
-    r: usize,
-) -> io::Result<()>
-    requires listed { Listed line profile.now reach.now w h }
-    requires c_lt_w { c < w }
-    requires r_lt_h { r < h }
-{
-    if is_steep(line.dx, line.dy) {
-        print_numbers(
-            rt,
-            behind_at(line, profile, reach, h, w, r, c),
-            ahead_at(line, profile, h, w, r, c),
-        )
-    } else {
-        print_numbers(
-            rt,
-            behind_at(line, profile, reach, w, h, c, r),
-            ahead_at(line, profile, w, h, c, r),
-        )
-    }
+    ghost listed: { Listed line profile.now reach.now w h },
 }
 
-// Prints the numbers of one row, and ends the line.
-fn print_row(
-    rt: &impl Print,
-    line: Line,
-    profile: &[usize],
-    reach: &[usize],
-    w: usize,
-    h: usize,
-    r: usize,
-) -> io::Result<()>
-    requires listed { Listed line profile.now reach.now w h }
-    requires r_lt_h { r < h }
-{
-    print_pixel(rt, line, profile, reach, w, h, 0, r)?;
-    for c in 1..w {
-        print!(rt; " ")?;
-        print_pixel(rt, line, profile, reach, w, h, c, r)?;
+impl Page<'_> {
+    // Prints the two numbers of the pixel at column c and row r.
+    fn print_pixel(&self, rt: &impl Print, c: usize, r: usize) -> io::Result<()>
+        requires c_lt_w { c < self.now.w }
+        requires r_lt_h { r < self.now.h }
+    {
+        let Page {
+            line,
+            profile,
+            reach,
+            w,
+            h,
+        } = *self;
+        let (behind, ahead) = if is_steep(line.dx, line.dy) {
+            (
+                behind_at(line, profile, reach, h, w, r, c),
+                ahead_at(line, profile, h, w, r, c),
+            )
+        } else {
+            (
+                behind_at(line, profile, reach, w, h, c, r),
+                ahead_at(line, profile, w, h, c, r),
+            )
+        };
+        print!(rt; "{behind}/{ahead}")
     }
-    println!(rt)
-}
 
-fn print_page(
-    rt: &impl Print,
-    line: Line,
-    profile: &[usize],
-    reach: &[usize],
-    w: usize,
-    h: usize,
-) -> io::Result<()>
-    requires { Listed line profile.now reach.now w h }
-{
-    for r in 0..h {
-        print_row(rt, line, profile, reach, w, h, r)?;
+    // Prints the numbers of one row, and ends the line.
+    fn print_row(&self, rt: &impl Print, r: usize) -> io::Result<()>
+        requires { r < self.now.h }
+    {
+        self.print_pixel(rt, 0, r)?;
+        for c in 1..self.w {
+            print!(rt; " ")?;
+            self.print_pixel(rt, c, r)?;
+        }
+        println!(rt)
     }
-    Ok(())
+
+    fn print(&self, rt: &impl Print) -> io::Result<()> {
+        for r in 0..self.h {
+            self.print_row(rt, r)?;
+        }
+        Ok(())
+    }
 }
 
 // Lists a page of at most 4096 pixels: no side is longer than the tables.
@@ -91,5 +77,12 @@ pub fn list(rt: &impl Print, line: Line, w: usize, h: usize) -> io::Result<()>
     let mut reach = [0usize; 4096];
     fill_profile(line, &mut profile);
     fill_reach(&profile, &mut reach);
-    print_page(rt, line, &profile, &reach, w, h)
+    let page = Page {
+        line,
+        profile: &profile,
+        reach: &reach,
+        w,
+        h,
+    };
+    page.print(rt)
 }

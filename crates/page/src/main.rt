@@ -10,7 +10,6 @@ mod text;
 ghost use Rattle.std.specs.Prelude.{◌+◌, ◌<◌, ◌≤◌, length};
 
 use placement::{Placements, Spot};
-use refusal::report;
 use std::io;
 use std::io::Read;
 
@@ -29,18 +28,12 @@ const MOST_PIXELS: usize = 8192;
 // As much scratch as is ever lent.
 const MOST_SCRATCH: usize = 65536;
 
-fn wide(b: u8) -> usize
-    ensures { result < 256 }
-{
-    b as usize
-}
-
 // Two bytes as one number, the larger part first.
 fn number_at(s: &[u8], at: usize) -> usize
     requires { at + 1 < length s.now }
     ensures { result < 65536 }
 {
-    256 * wide(s[at]) + wide(s[at + 1])
+    usize::from(u16::from_be_bytes([s[at], s[at + 1]]))
 }
 
 fn area(w: usize, h: usize) -> usize
@@ -48,14 +41,6 @@ fn area(w: usize, h: usize) -> usize
     requires h_bound { h < 65536 }
 {
     w * h
-}
-
-fn larger(a: usize, b: usize) -> usize
-    requires a_bound { a < 65536 }
-    requires b_bound { b < 65536 }
-    ensures { result < 65536 }
-{
-    if a < b { b } else { a }
 }
 
 // The scratch that a page needs, or all 65,536 bytes of the array. Only a page with a zero side can need more, as
@@ -67,12 +52,8 @@ fn scratch_lent(w: usize, h: usize, pixels: usize) -> usize
     requires pixels_bound { pixels ≤ 8192 }
     ensures { result ≤ 65536 }
 {
-    let needed = 2 * pixels + 3 * larger(w, h);
-    if needed < MOST_SCRATCH {
-        needed
-    } else {
-        MOST_SCRATCH
-    }
+    let needed = 2 * pixels + 3 * w.max(h);
+    needed.min(MOST_SCRATCH)
 }
 
 // Runs the job over trays that are just long enough, and prints its answer.
@@ -87,23 +68,19 @@ fn filter_page(
 ) -> io::Result<()>
     requires { length output.old ≤ 8192 }
 {
+    let whole = Spot {
+        offset: 0,
+        stride: w,
+    };
     let placements = Placements {
         width: w,
         height: h,
-        source: Spot {
-            offset: 0,
-            stride: w,
-        },
-        output: Spot {
-            offset: 0,
-            stride: w,
-        },
+        source: whole,
+        output: whole,
     };
-    let answer = job::job::run(ticket, placements, source, output, scratch);
-    if report::is_done(answer) {
-        text::print_done(rt, report::work(answer), output, w)
-    } else {
-        text::print_refused(rt, report::number(answer), report::place(answer))
+    match job::job::run(ticket, placements, source, output, scratch) {
+        Ok(work) => text::print_done(rt, work, output, w),
+        Err(refused) => println!(rt; "{refused}"),
     }
 }
 

@@ -11,10 +11,6 @@ pub fn print_too_big(rt: &impl Print) -> io::Result<()> {
     println!(rt; "too big")
 }
 
-pub fn print_refused(rt: &impl Print, number: usize, place: usize) -> io::Result<()> {
-    println!(rt; "refused {number} at {place}")
-}
-
 // Puts a character at `at` where it is wanted, and answers where the next one goes.
 fn put(text: &mut [u8], at: usize, wanted: bool, character: u8) -> usize
     requires { at < length text.old }
@@ -28,20 +24,14 @@ fn put(text: &mut [u8], at: usize, wanted: bool, character: u8) -> usize
     }
 }
 
-fn digit(n: u8) -> u8
-    requires { n < 10 }
-{
-    b'0' + n
-}
-
 // Puts a pixel in decimal and a mark behind it: four characters at most.
 fn put_pixel(text: &mut [u8], at: usize, pixel: u8, mark: u8) -> usize
     requires { at + 4 ≤ length text.old }
     ensures { result ≤ at + 4 }
 {
-    let tens = put(text, at, 100 <= pixel, digit(pixel / 100));
-    let units = put(text, tens, 10 <= pixel, digit(pixel / 10 % 10));
-    let end = put(text, units, true, digit(pixel % 10));
+    let tens = put(text, at, 100 <= pixel, b'0' + pixel / 100);
+    let units = put(text, tens, 10 <= pixel, b'0' + pixel / 10 % 10);
+    let end = put(text, units, true, b'0' + pixel % 10);
     put(text, end, true, mark)
 }
 

@@ -1,19 +1,23 @@
 -- Pixels: how many there are, the greatest, and those before the first above a maximum. Assumes nothing.
 use mathlib.Core.Path.{◌≡◌, refl, sym, ap, ◌∙◌}
+use Rattle.refusal.specs.Answer.{Answer}
 use mathlib.Core.Logic.{by_cases}
-use Prim.Native.Nat.{ℕ, zero, suc, ◌+◌, ◌-◌, ◌*◌, ◌/◌, ◌≤◌, ◌<◌, min, max}
+use Prim.Native.Nat.{ℕ, zero, suc, ◌+◌, ◌-◌, ◌*◌, ◌≤◌, ◌<◌, min, max}
 use native.Mathlib.Decide.{dec_lt}
-use native.Mathlib.Nat.{le-div_iff_mul-le, mul_comm, zero-mul, mul-zero, mul-le-mul_left, add-sub_cancel_left}
+use native.Mathlib.Nat.{mul_comm, mul-zero, mul-le-mul_left, add-sub_cancel_left}
 use native.Mathlib.Numerals.{add-one}
 use native.Mathlib.Omega.{arith}
-use borrow.Author.Tests.{leb-true, le-leb, lt-leb, ne_eqb}
-use mathlib.Core.Bool.{Bool, true, false, ◌&&◌}
+use borrow.Author.Tests.{le-leb, lt-leb, ne_eqb}
+use Rattle.std.specs.Prelude.{nat_lt, position}
+use Rattle.std.specs.List.{position_or_len}
+use Rattle.std.specs.Option.{unwrap_or}
+use Rattle.std.proofs.lemmas.Bool.{lt-ltb, le-ltb}
+use mathlib.Core.Bool.{Bool, ◌&&◌}
 use mathlib.Core.List.{List, [], ◌∷◌}
 use lib.ListN.{length, get_or, take, drop, drop_of_length-le, length-take, length-drop}
 use lib.Seq.{drop-cons, take_all}
 use lib.Dec.{leb, eqb}
 use Rattle.refusal.specs.Chain.{unless}
-use Rattle.refusal.specs.declared.Answer.{Answer}
 use Rattle.refusal.specs.declared.Later.TheVariants.{BadPixel}
 use Rattle.refusal.specs.declared.Refusal.TheVariants.{Later}
 use Rattle.pgm.specs.Header.{width_in, height_in, maximum_in, pixels_start}
@@ -30,31 +34,40 @@ module _ (pixels : List ℕ) (k : ℕ) (h : k < length pixels) where
   unfolding greatest
   greatest_on found = rw (add-one k, drop-cons pixels k 0 h) (omega arith)
 
-  pub sound_on : (maximum : ℕ) → get_or pixels k 0 ≤ maximum
-      → (k + 1) + sound_pixels maximum (drop (k + 1) pixels) ≡ k + sound_pixels maximum (drop k pixels)
-  unfolding sound_pixels
-  sound_on maximum l = rw (add-one k, drop-cons pixels k 0 h, le-leb (get_or pixels k 0) maximum l) (omega arith)
-
-  pub sound_over : (maximum : ℕ) → maximum < get_or pixels k 0 → k ≡ k + sound_pixels maximum (drop k pixels)
-  unfolding sound_pixels
-  sound_over maximum l = rw (drop-cons pixels k 0 h, lt-leb (get_or pixels k 0) maximum l) (omega arith)
-
 module _ (pixels : List ℕ) (k : ℕ) (h : length pixels ≤ k) where
   pub greatest_ended : (found : ℕ) → found ≡ max found (greatest (drop k pixels))
   unfolding greatest
   greatest_ended found = rw (drop_of_length-le pixels h) (omega arith)
 
-  pub sound_ended : (maximum : ℕ) → k ≡ k + sound_pixels maximum (drop k pixels)
-  unfolding sound_pixels
-  sound_ended maximum = rw (drop_of_length-le pixels h) (omega arith)
-
 -- ---- all of them
 
-pub sound_all : (maximum : ℕ) (pixels : List ℕ) → greatest pixels ≤ maximum → sound_pixels maximum pixels ≡ length pixels
+pub sound_all : (maximum : ℕ) (pixels : List ℕ)
+    → greatest pixels ≤ maximum
+    → sound_pixels maximum pixels ≡ length pixels
 unfolding greatest sound_pixels
 sound_all maximum [] h = refl
 sound_all maximum (b ∷ pixels) h =
     rw (le-leb b maximum (omega arith), sound_all maximum pixels (omega arith))
+
+-- the library's search for the first above the maximum
+sound_position : (maximum : ℕ) (pixels : List ℕ)
+    → sound_pixels maximum pixels ≡ position_or_len (λ b. nat_lt maximum b) pixels
+unfolding sound_pixels
+sound_position maximum [] = refl
+sound_position maximum (b ∷ pixels) =
+    let more = sound_position maximum pixels in
+    by_cases (dec_lt maximum b)
+    (λ h. rw (lt-leb b maximum h, lt-ltb maximum b h))
+    (λ h. rw (le-leb b maximum (omega arith), le-ltb maximum b (omega arith), more) (omega arith))
+
+pub sound_found : (maximum : ℕ) (pixels : List ℕ)
+    → unwrap_or (position (λ b. nat_lt maximum b) pixels) (length pixels) ≡ sound_pixels maximum pixels
+sound_found maximum pixels =
+    let few = sound_few maximum pixels in
+    rw (← sound_position maximum pixels)
+    (by_cases (dec_lt (sound_pixels maximum pixels) (length pixels))
+    (λ h. rw (lt-ltb (sound_pixels maximum pixels) (length pixels) h))
+    (λ h. rw (le-ltb (sound_pixels maximum pixels) (length pixels) (omega arith)) (omega arith)))
 
 pub greatest_most : (n : ℕ) (pixels : List ℕ) → ((i : ℕ) → get_or pixels i 0 ≤ n) → greatest pixels ≤ n
 unfolding greatest
@@ -65,23 +78,6 @@ greatest_most n (b ∷ pixels) all =
     omega arith
 
 -- ---- how many there are
-
-same : (a b : Bool) → (a ≡ true → b ≡ true) → (b ≡ true → a ≡ true) → a ≡ b
-same true b to from = sym (to refl)
-same false true to from = from refl
-same false false to from = refl
-
-module _ (width height room : ℕ) where
-  pub room_none : width ≡ 0 → true ≡ leb (width * height) room
-  room_none e = sym (le-leb (width * height) room (rw (e, zero-mul height) (omega arith)))
-
-  pub room_some : (width ≡ 0 → ⊥) → leb height (room / width) ≡ leb (width * height) room
-  room_some some =
-      let pos : 0 < width = omega arith in
-      let turn = mul_comm height width in
-      same (leb height (room / width)) (leb (width * height) room)
-      (λ h. le-leb (width * height) room (rw turn at ((le-div_iff_mul-le pos).0 (leb-true height (room / width) h))))
-      (λ h. le-leb height (room / width) ((le-div_iff_mul-le pos).1 (rw turn (leb-true (width * height) room h))))
 
 -- what is told of the sides is whole, or both products are beyond the room
 data Told (w h room : ℕ) : Type 0 where

@@ -1,55 +1,42 @@
 -- The reading of a file from that of its header and the judgement of its pixels. Assumes nothing.
-use mathlib.Core.Path.{◌≡◌, refl, sym, ap, ◌∙◌}
+use mathlib.Core.Path.{◌≡◌, refl, sym}
+use Rattle.std.specs.Prelude.{Result, Ok, Err}
 use Prim.Native.Nat.{ℕ, ◌≤◌}
-use mathlib.Core.Bool.{true, false}
 use mathlib.Core.List.{List}
 use lib.ListN.{length}
-use Rattle.refusal.specs.Answer.{is_done}
-use Rattle.refusal.specs.Chain.{◌then◌, then_on, then_stop, then_done, when_done_lem}
-use Rattle.refusal.specs.declared.Answer.{Answer}
-use Rattle.refusal.specs.declared.Answer.TheVariants.{Done, Refused}
+use Rattle.refusal.specs.Answer.{Answer, giving}
+use Rattle.refusal.specs.Chain.{◌then◌, then_done, then_given, then_not_given, given}
+use Rattle.refusal.specs.declared.Refused.{Refused}
 use Rattle.pgm.specs.Header.{judge_header, judge_maximum}
-use Rattle.pgm.specs.Reading.{judge_pixels, judged, header_in, no_header, shown_at, reading}
+use Rattle.pgm.specs.Reading.{judge_pixels, judged, header_in, reading}
 use Rattle.pgm.specs.Laws.{header_good}
-use Rattle.pgm.specs.declared.Reading.{Reading}
+use Rattle.pgm.specs.Fielding.{header_read}
+use Rattle.pgm.specs.declared.Header.{Header}
 
 regrouped : (a b c : Answer) → ((a then b) then c) ≡ (a then (b then c))
 unfolding ◌then◌
-regrouped (Done work) b c = refl
-regrouped (Refused refusal at) b c = refl
+regrouped (Ok work) b c = refl
+regrouped (Err refused) b c = refl
 
-module _ (file : List ℕ) {r : Reading} (e : r ≡ shown_at (judge_header file then judge_maximum file) (header_in file)) where
-  header_answer : r.answer ≡ (judge_header file then judge_maximum file)
-  unfolding shown_at
-  header_answer = rw e
-
-  all_judged : judged file ≡ (r.answer then judge_pixels file)
+module _ (file : List ℕ) where
+  all_judged : judged file ≡ ((judge_header file then judge_maximum file) then judge_pixels file)
   unfolding judged
-  all_judged = rw header_answer (sym (regrouped (judge_header file) (judge_maximum file) (judge_pixels file)))
+  all_judged = sym (regrouped (judge_header file) (judge_maximum file) (judge_pixels file))
 
-  read_as : reading file ≡ shown_at (r.answer then judge_pixels file) (header_in file)
-  unfolding reading shown_at
-  read_as = rw all_judged
+  pub header_refused : {e : Refused} → header_read file ≡ Err e → reading file ≡ Err e
+  unfolding reading
+  header_refused h = rw all_judged (then_not_given _ (judge_pixels file) (header_in file) h)
 
-  pub refused_read : is_done r.answer ≡ false → r ≡ reading file
-  refused_read refused =
-      let stop = then_stop r.answer (judge_pixels file) refused ∙ header_answer in
-      e ∙ sym (read_as ∙ ap (λ (a : Answer). shown_at a (header_in file)) stop)
+  module _ {header : Header} (h : header_read file ≡ Ok header) where
+    pub header_is : header ≡ header_in file
+    header_is = sym (given _ (header_in file) header h).1
 
-  module _ (done : is_done r.answer ≡ true) where
-    pub header_shown_lem : r.header ≡ header_in file
-    unfolding shown_at
-    header_shown_lem = rw e (when_done_lem _ (header_in file) no_header (rw header_answer at done))
-
-    pub start_within : r.header.start ≤ length file
+    pub start_within : header.start ≤ length file
     unfolding header_in
     start_within =
-        let both = then_done (judge_header file) (judge_maximum file) (rw header_answer at done) in
-        rw header_shown_lem (header_good file both.0 both.1).start
+        let both = then_done (judge_header file) (judge_maximum file) (given _ (header_in file) header h).0 in
+        rw header_is (header_good file both.0 both.1).start
 
-    pub good_read : {q : Reading} {a : Answer} → a ≡ judge_pixels file → q ≡ shown_at a r.header → q ≡ reading file
-    good_read f g =
-        let on = then_on r.answer (judge_pixels file) done in
-        let header = header_shown_lem in
-        let whole = read_as in
-        cc
+    pub pixels_read : {r : Result Header Refused} → r ≡ giving (judge_pixels file) header → r ≡ reading file
+    unfolding reading
+    pixels_read e = rw all_judged (then_given _ (judge_pixels file) (header_in file) header h e)

@@ -13,7 +13,7 @@ use lib.Seq.{drop-cons}
 use lib.Dec.{leb}
 use Rattle.pgm.specs.Bytes.{Byte, is_digit, is_hash, uncommented, bytes_from, first_place, starts_with}
 use Rattle.pgm.specs.Bytes.{behind, numeral}
-use Rattle.pgm.specs.Scanning.{is_outside, inside_behind, Stands, Onward}
+use Rattle.pgm.specs.Scanning.{Computes, is_outside, inside_behind, Stands, Onward}
 
 -- ---- the next byte in no comment
 
@@ -89,7 +89,8 @@ pub stands_for : {file : List ℕ} {bytes other : List Byte} {k : ℕ}
 stands_for s e = record { rest = s.rest ∙ e; plain = s.plain; within = s.within }
 
 module _ (file : List ℕ) (k : ℕ) (stands : Stands file (bytes_from file k) k) where
-  one_more : k < length file → bytes_from file k ≡ record { place = k; value = get_or file k 0 } ∷ bytes_from file (suc k)
+  one_more : k < length file
+      → bytes_from file k ≡ record { place = k; value = get_or file k 0 } ∷ bytes_from file (suc k)
   unfolding bytes_from uncommented
   one_more h = rw (drop-cons file k 0 h, stands.plain h)
 
@@ -117,7 +118,8 @@ module _ (file : List ℕ) (k : ℕ) (stands : Stands file (bytes_from file k) k
     unfolding behind
     run_on h is = rw (add-one k, one_more h, is)
 
-    pub run_over : k < length file → kind (get_or file k 0) ≡ false → behind kind (bytes_from file k) ≡ bytes_from file k
+    pub run_over : k < length file → kind (get_or file k 0) ≡ false
+        → behind kind (bytes_from file k) ≡ bytes_from file k
     unfolding behind
     run_over h is = rw (one_more h, is)
 
@@ -137,6 +139,10 @@ module _ (file : List ℕ) (k : ℕ) (stands : Stands file (bytes_from file k) k
   pub number_ended : (n : ℕ) → length file ≤ k → numeral n (bytes_from file k) ≡ n
   unfolding numeral
   number_ended n h = rw (none_more h)
+
+-- a function that is passed on as a test computes what its contract says
+pub itself : (test : ℕ → Bool) → Computes (λ b r. r ≡ test b) test
+itself test = record { is = λ b r h e. e }
 
 pub stands_first : {file : List ℕ} {bytes : List Byte} {k : ℕ} → Stands file bytes k → k ≡ first_place file bytes
 stands_first {file} {bytes} {k} s = first_here file k (here s) ∙ ap (first_place file) s.rest

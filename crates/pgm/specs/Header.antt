@@ -4,8 +4,8 @@
 -- first digit) or the file's end".
 -- Assumes nothing.
 use Rattle.std.specs.Prelude.{ℕ, suc, List, get_or, leb, eqb}
+use Rattle.refusal.specs.Answer.{Answer}
 use Rattle.refusal.specs.Chain.{unless, ◌then◌}
-use Rattle.refusal.specs.declared.Answer.{Answer}
 use Rattle.refusal.specs.declared.Later.TheVariants.{BadHeader, BadMaximum}
 use Rattle.refusal.specs.declared.Refusal.TheVariants.{Later}
 use Rattle.pgm.specs.Bytes.{Byte, is_space, is_digit, bytes_from, first_place, starts_with, behind, numeral}

@@ -1,11 +1,12 @@
 -- The laws of a file that was read, as callers cite them, with their proofs: its maximum is a byte other than 0, all
 -- its pixels are there, and none is above the maximum.
 -- Assumes nothing.
-use Rattle.std.specs.Prelude.{◌≡◌, refl, ℕ, zero, suc, ◌+◌, ◌-◌, ◌*◌, ◌≤◌, ◌<◌, Bool, true, false, not, cond, List, [], ◌∷◌, length, get_or, take, drop, leb}
+use Rattle.std.specs.Prelude.{◌≡◌, refl, ℕ, zero, suc, ◌+◌, ◌-◌, ◌*◌, ◌≤◌, ◌<◌, Bool, true, false, not, cond, Ok}
+use Rattle.std.specs.Prelude.{List, [], ◌∷◌, length, get_or, take, drop, leb}
 use Rattle.std.proofs.Common.{arith, leb-true, eqb-true, length-take, length-drop, get_or-take, get_or-drop}
 use Rattle.std.proofs.lemmas.Bool.{false≢true}
 use Rattle.refusal.specs.Answer.{is_done}
-use Rattle.refusal.specs.Chain.{unless, then_done, unless_done, when_done_lem}
+use Rattle.refusal.specs.Chain.{unless, then_done, unless_done, giving_on}
 use Rattle.refusal.specs.declared.Later.TheVariants.{BadHeader, BadPixel}
 use Rattle.refusal.specs.declared.Refusal.TheVariants.{Later}
 use Rattle.pgm.specs.Bytes.{Byte, is_space, is_digit, is_hash, is_line_end, uncommented, bytes_from, first_place}
@@ -14,7 +15,7 @@ use Rattle.pgm.specs.Header.{digits, behind_number, judge_number, from_width, fr
 use Rattle.pgm.specs.Header.{from_delimiter, width_in, height_in, maximum_in, maximum_place, pixels_start}
 use Rattle.pgm.specs.Header.{judge_magic, judge_from_maximum, judge_header, judge_maximum}
 use Rattle.pgm.specs.Reading.{sound_pixels, image_pixels, judge_pixels, judged}
-use Rattle.pgm.specs.Reading.{told, header_in, no_header, shown_at, reading}
+use Rattle.pgm.specs.Reading.{told, header_in, reading}
 
 -- ---- the bytes of a header stand in the file
 
@@ -118,10 +119,10 @@ pub record Read (file : List ℕ) : Type 0 where
   pub maximum_most : maximum_in file ≤ 255
   pub enough : pixels_start file + width_in file * height_in file ≤ length file
   pub pixels : (i : ℕ) → i < width_in file * height_in file → get_or file (pixels_start file + i) 0 ≤ maximum_in file
-  pub header : (reading file).header ≡ header_in file
+  pub header : reading file ≡ Ok (header_in file)
 
 pub read_good : (file : List ℕ) → is_done (judged file) ≡ true → Read file
-unfolding judged judge_pixels image_pixels reading shown_at
+unfolding judged judge_pixels image_pixels reading
 read_good file good =
     let n = width_in file * height_in file in
     let image = take n (drop (pixels_start file) file) in
@@ -139,7 +140,7 @@ read_good file good =
           λ i h.
           let sound = sound_below (maximum_in file) image i (omega arith) in
           rw (get_or-take n (drop (pixels_start file) file) i 0 h, get_or-drop (pixels_start file) file i 0) at sound;
-      header = when_done_lem (judged file) (header_in file) no_header good;
+      header = giving_on (judged file) (header_in file) good;
     }
 
 -- a side that is told within its limits is the side

@@ -1,16 +1,15 @@
 -- What is written reads back. Document 02, wish 1: "Each header field we write ends in one newline; read back, a page
 -- is the same."
 -- Assumes nothing.
-use Rattle.std.specs.Prelude.{◌≡◌, true, false, ℕ, suc, ◌+◌, ◌-◌, ◌*◌, ◌/◌, ◌%◌, ◌<◌, ◌≤◌, length, get_or, drop}
+use Rattle.std.specs.Prelude.{◌≡◌, true, false, Ok, ℕ, suc, ◌+◌, ◌-◌, ◌*◌, ◌/◌, ◌%◌, ◌<◌, ◌≤◌, length, get_or, drop}
 use Rattle.std.proofs.Math.Path.{refl, ap}
 use Rattle.std.proofs.Common.{sym, ◌∙◌, add-one, arith, length-append, drop_at}
 use mathlib.Core.List.{List, [], ◌∷◌, ◌++◌, append_assoc}
 use borrow.Author.Tests.{le-leb, lt-leb, ne_eqb, eq-eqb}
 use Rattle.std.proofs.Math.ListN.{take}
 use Rattle.std.proofs.Math.Seq.{take_at}
-use Rattle.refusal.specs.Answer.{when_done}
+use Rattle.refusal.specs.Answer.{done_with, giving}
 use Rattle.refusal.specs.Chain.{unless, ◌then◌}
-use Rattle.refusal.specs.declared.Answer.TheVariants.{Done}
 use Rattle.heading.specs.Decimal.{decimal_small, decimal_more, by_digits, length_header}
 use Rattle.heading.specs.Writing.{decimal, line, header_of, file_of}
 use Rattle.pgm.specs.Bytes.{Byte, is_space, is_digit, is_hash, uncommented, bytes_from, first_place}
@@ -20,7 +19,7 @@ use Rattle.pgm.specs.Header.{width_in, height_in, maximum_in, pixels_start}
 use Rattle.pgm.specs.Header.{judge_number, judge_magic, judge_from_maximum, judge_header, judge_maximum}
 use Rattle.pgm.specs.Laws.{told_same}
 use Rattle.pgm.specs.Reading.{sound_pixels, image_pixels, judge_pixels, judged}
-use Rattle.pgm.specs.Reading.{largest, told, header_in, shown_at, reading}
+use Rattle.pgm.specs.Reading.{largest, told, header_in, reading}
 
 -- ---- the digits of a number
 
@@ -102,7 +101,7 @@ module _ (n k : ℕ) (rest : List ℕ) where
   unfolding uncommented is_hash is_digit behind_number behind
   field_behind = ap (behind is_digit) field_digits ∙ (digits_read n (suc k) (10 ∷ rest)).passed
 
-  field_judged : (file : List ℕ) → judge_number file (field n k rest) ≡ Done 0
+  field_judged : (file : List ℕ) → judge_number file (field n k rest) ≡ done_with 0
   unfolding uncommented is_hash is_space starts_with judge_number unless ◌then◌
   field_judged file = rw (field_digits, (digits_read n (suc k) (10 ∷ rest)).starts)
 
@@ -159,7 +158,7 @@ module _ (w h m : ℕ) (body : List ℕ) where
   unfolding uncommented is_hash first_place pixels_start
   start_back = rw from_delimiter_lem (omega (arith, length_header w h m))
 
-  header_judged : 1 ≤ m → judge_header (written w h m body) ≡ Done 0
+  header_judged : 1 ≤ m → judge_header (written w h m body) ≡ done_with 0
   unfolding uncommented is_hash is_space starts_with judge_magic judge_header judge_from_maximum unless ◌then◌
   header_judged least =
       rw (
@@ -196,7 +195,7 @@ module _ (w h m : ℕ) (pixels rest : List ℕ) (count : length pixels ≡ w * h
       ∙ ap (take (w * h)) (drop_at header (pixels ++ rest) (length header) refl)
       ∙ take_at pixels rest (w * h) count)
 
-  judged_back : 1 ≤ m → m ≤ 255 → ((i : ℕ) → i < length pixels → get_or pixels i 0 ≤ m) → judged whole ≡ Done 0
+  judged_back : 1 ≤ m → m ≤ 255 → ((i : ℕ) → i < length pixels → get_or pixels i 0 ≤ m) → judged whole ≡ done_with 0
   unfolding judged judge_maximum judge_pixels unless ◌then◌
   judged_back least most sound =
       rw (
@@ -213,29 +212,26 @@ module _ (w h m : ℕ) (pixels rest : List ℕ) (count : length pixels ≡ w * h
 
 -- what is read of a file, in every way in which it is told
 pub record ReadsBack (width height maximum : ℕ) (pixels file : List ℕ) : Type 0 where
-  pub answered : judged file ≡ Done 0
+  pub answered : judged file ≡ done_with 0
   pub width_is : width_in file ≡ width
   pub height_is : height_in file ≡ height
   pub maximum_is : maximum_in file ≡ maximum
   pub start_is : pixels_start file ≡ length (header_of width height maximum)
   pub pixels_are : image_pixels file ≡ pixels
   pub told_is : reading file ≡
-      record {
-        answer = Done 0;
-        header = record {
-          width = told width;
-          height = told height;
-          maximum = maximum;
-          start = length (header_of width height maximum);
-        };
-      }
+      Ok (record {
+        width = told width;
+        height = told height;
+        maximum = maximum;
+        start = length (header_of width height maximum);
+      })
 
 -- what is written reads back as the same sides, maximum and pixels, for every page, whatever stands behind it
 pub read_back : (width height maximum : ℕ) (pixels rest : List ℕ) → 1 ≤ maximum → maximum ≤ 255
     → length pixels ≡ width * height
     → ((i : ℕ) → i < length pixels → get_or pixels i 0 ≤ maximum)
     → ReadsBack width height maximum pixels (file_of width height maximum pixels ++ rest)
-unfolding file_of header_in reading shown_at when_done
+unfolding file_of header_in reading giving
 read_back w h m pixels rest least most count sound =
     let body = pixels ++ rest in
     let done = judged_back w h m pixels rest count least most sound in

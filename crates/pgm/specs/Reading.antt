@@ -1,15 +1,14 @@
 -- A P5 file as it is read: its first image. Document 02, wish 1: "17, pixel above the maximum or too few pixels; in
 -- this order", "Only a file's first image is read."
 -- Assumes nothing.
-use Rattle.std.specs.Prelude.{ℕ, suc, ◌+◌, ◌*◌, min, cond, List, [], ◌∷◌, take, drop, leb, eqb}
-use Rattle.refusal.specs.Answer.{when_done}
+use Rattle.std.specs.Prelude.{ℕ, suc, ◌+◌, ◌*◌, min, cond, Result, List, [], ◌∷◌, take, drop, leb, eqb}
+use Rattle.refusal.specs.Answer.{Answer, giving}
 use Rattle.refusal.specs.Chain.{unless, ◌then◌}
-use Rattle.refusal.specs.declared.Answer.{Answer}
 use Rattle.refusal.specs.declared.Later.TheVariants.{BadPixel}
 use Rattle.refusal.specs.declared.Refusal.TheVariants.{Later}
+use Rattle.refusal.specs.declared.Refused.{Refused}
 use Rattle.pgm.specs.Header.{width_in, height_in, maximum_in, pixels_start, judge_header, judge_maximum}
 use Rattle.pgm.specs.declared.Header.{Header}
-use Rattle.pgm.specs.declared.Reading.{Reading}
 
 -- how many pixels stand before the first above the maximum, or before the end
 unfoldable pub sound_pixels : ℕ → List ℕ → ℕ
@@ -49,12 +48,6 @@ header_in file =
       start = pixels_start file;
     }
 
-unfoldable pub no_header : Header
-no_header = record { width = 0; height = 0; maximum = 0; start = 0 }
-
--- an answer with the header, or with zeros in it at a refusal
-unfoldable pub shown_at : Answer → Header → Reading
-shown_at answer header = record { answer = answer; header = when_done answer header no_header }
-
-unfoldable pub reading : List ℕ → Reading
-reading file = shown_at (judged file) (header_in file)
+-- what is read of a file: its header, or the refusal
+unfoldable pub reading : List ℕ → Result Header Refused
+reading file = giving (judged file) (header_in file)

@@ -1,12 +1,11 @@
 -- What the functions that scan a file promise one another.
 -- Assumes nothing.
 use Rattle.std.specs.Prelude.{◌≡◌, ℕ, ◌≤◌, ◌<◌, Bool, true, false, not, ◌&&◌, List, length, get_or}
-use Rattle.pgm.specs.Bytes.{Byte, is_space, is_digit, is_hash, is_line_end, bytes_from}
+use Rattle.pgm.specs.Bytes.{Byte, is_hash, is_line_end, bytes_from}
 
--- the kind of a run of bytes: digits, or white space
-abbrev pub kind_of : Bool → ℕ → Bool
-kind_of true = is_digit
-kind_of false = is_space
+-- a test of bytes that is passed on, by the results that a call of it may give, computes a test of numbers
+pub record Computes (gives : ℕ → Bool → Type 0) (test : ℕ → Bool) : Type 0 where
+  pub is : (b : ℕ) (r : Bool) → b < 256 → gives b r → r ≡ test b
 
 -- a byte and whether it stands inside a comment: whether it is in none and starts none, and whether the byte behind it
 -- stands inside one

@@ -1,12 +1,10 @@
 -- Values of the definitions, byte by byte: what the reader answers to short files, and what it shows of one.
 -- Assumes nothing.
-use Rattle.std.specs.Prelude.{◌≡◌, refl, ℕ, List, [], ◌∷◌, map}
+use Rattle.std.specs.Prelude.{◌≡◌, refl, ℕ, Ok, List, [], ◌∷◌, map}
 use Prim.Native.Char.{code}
 use Prim.Native.String.{String, [] as []ˢ, ◌∷◌ as ◌∷ˢ◌}
 use Rattle.refusal.specs.Chain.{unless, ◌then◌}
-use Rattle.refusal.specs.Answer.{when_done}
-use Rattle.refusal.specs.declared.Answer.{Answer}
-use Rattle.refusal.specs.declared.Answer.TheVariants.{Done, Refused}
+use Rattle.refusal.specs.Answer.{Answer, done_with, refused_at, giving}
 use Rattle.refusal.specs.declared.Later.TheVariants.{BadHeader, BadMaximum, BadPixel}
 use Rattle.refusal.specs.declared.Refusal.TheVariants.{Later}
 use Rattle.heading.specs.Writing.{decimal_in, decimal, line, header_of, file_of}
@@ -16,7 +14,7 @@ use Rattle.pgm.specs.Header.{digits, number_in, behind_number, judge_number, fro
 use Rattle.pgm.specs.Header.{from_delimiter, width_in, height_in, maximum_in, maximum_place, pixels_start}
 use Rattle.pgm.specs.Header.{judge_magic, judge_from_maximum, judge_header, judge_maximum}
 use Rattle.pgm.specs.Reading.{sound_pixels, image_pixels, judge_pixels, judged}
-use Rattle.pgm.specs.Reading.{told, header_in, no_header, shown_at, reading}
+use Rattle.pgm.specs.Reading.{told, header_in, reading}
 
 -- the bytes of a text
 abbrev text : String → List ℕ
@@ -29,16 +27,16 @@ record Case : Type 0 where
 
 -- a file that is good, and the three refusals
 abbrev good : String → Case
-good file = record { file = file; answer = Done 0 }
+good file = record { file = file; answer = done_with 0 }
 
 abbrev bad : String → ℕ → Case
-bad file at = record { file = file; answer = Refused (Later BadHeader) at }
+bad file at = record { file = file; answer = refused_at (Later BadHeader) at }
 
 abbrev bright : String → ℕ → Case
-bright file at = record { file = file; answer = Refused (Later BadMaximum) at }
+bright file at = record { file = file; answer = refused_at (Later BadMaximum) at }
 
 abbrev wrong : String → ℕ → Case
-wrong file at = record { file = file; answer = Refused (Later BadPixel) at }
+wrong file at = record { file = file; answer = refused_at (Later BadPixel) at }
 
 -- an "a" is 97, a "b" is 98
 abbrev cases : List Case
@@ -89,10 +87,10 @@ worked = refl
 -- an image of 2 by 1, maximum 9
 one_row :
     reading (file_of 2 1 9 (7 ∷ 9 ∷ []))
-    ≡ record { answer = Done 0; header = record { width = 2; height = 1; maximum = 9; start = 9 } }
+    ≡ Ok (record { width = 2; height = 1; maximum = 9; start = 9 })
 unfolding is_space is_digit is_hash is_line_end uncommented bytes_from first_place starts_with behind numeral digits number_in
     behind_number judge_number from_width from_height from_maximum from_delimiter width_in height_in maximum_in maximum_place
     pixels_start judge_magic judge_from_maximum judge_header judge_maximum
     sound_pixels image_pixels judge_pixels judged unless ◌then◌
-    told header_in no_header shown_at reading decimal_in decimal line header_of file_of when_done
+    told header_in reading decimal_in decimal line header_of file_of giving
 one_row = refl

@@ -1,23 +1,22 @@
 // Bytes outside comments: where the next one stands, what is behind a run of one kind, and the number that a run of
 // digits makes. A place is asked for only where no comment starts, or at the file's end.
-ghost use Rattle.std.specs.Prelude.{◌≡◌, true, ◌+◌, ◌-◌, ◌*◌, ◌≤◌, length};
+ghost use Rattle.std.specs.Prelude.{◌≡◌, true, ℕ, ◌+◌, ◌-◌, ◌*◌, ◌≤◌, Bool, length};
 ghost use Rattle.pgm.specs.Bytes.{is_space, is_digit, is_hash, is_line_end, bytes_from, starts_with, numeral};
 ghost use Rattle.pgm.specs.Bytes.{behind as behindRun};
 ghost use Rattle.pgm.specs.Reading.{told};
-ghost use Rattle.pgm.specs.Scanning.{kind_of, is_outside, inside_behind, Stands, Onward};
+ghost use Rattle.pgm.specs.Scanning.{Computes, is_outside, inside_behind, Stands, Onward};
 
-const LARGEST: usize = 18446744073709551615;
-
-fn is_space(b: u8) -> bool
+// Stays: the library's `is_ascii_whitespace` leaves out VT, which is white space here.
+pub fn is_space(b: u8) -> bool
     ensures { result ≡ is_space b }
 {
     (b == b' ') | ((9 <= b) & (b <= 13))
 }
 
-fn is_digit(b: u8) -> bool
+pub fn is_digit(b: u8) -> bool
     ensures { result ≡ is_digit b }
 {
-    (b'0' <= b) & (b <= b'9')
+    b.is_ascii_digit()
 }
 
 fn is_hash(b: u8) -> bool
@@ -30,13 +29,6 @@ fn is_line_end(b: u8) -> bool
     ensures { result ≡ is_line_end b }
 {
     (b == b'\n') | (b == b'\r')
-}
-
-// A digit, or white space: one loop serves both.
-fn is_kind(digits: bool, b: u8) -> bool
-    ensures { result ≡ kind_of digits b }
-{
-    if digits { is_digit(b) } else { is_space(b) }
 }
 
 fn is_outside(inside: bool, b: u8) -> bool
@@ -57,54 +49,45 @@ pub fn next(file: &[u8], at: usize) -> usize
     ensures { Onward file.now (bytes_from file.now at) at result }
 {
     let mut inside = false;
-    let mut k = at;
-    while k < file.len() {
+    for k in at..file.len() {
         if is_outside(inside, file[k]) {
             return k;
         }
         inside = inside_behind(inside, file[k]);
-        k += 1;
     }
-    k
+    file.len()
 }
 
 // Whether a byte of this kind stands here.
-pub fn starts_with(file: &[u8], digits: bool, at: usize) -> bool
-    requires { Stands file.now (bytes_from file.now at) at }
-    ensures { result ≡ starts_with (kind_of digits) (bytes_from file.now at) }
+pub fn starts_with<F: Fn(u8) -> bool>(file: &[u8], kind: F, at: usize) -> bool
+    requires callable { F.IsAlwaysCallable kind }
+    requires stands { Stands file.now (bytes_from file.now at) at }
+    ensures { (test : ℕ → Bool) → Computes (F.post kind) test
+        → result ≡ starts_with test (bytes_from file.now at) }
 {
-    if at < file.len() {
-        is_kind(digits, file[at])
-    } else {
-        false
-    }
+    at < file.len() && kind(file[at])
 }
 
 // The place behind all bytes of this kind.
-pub fn behind(file: &[u8], digits: bool, at: usize) -> usize
-    requires { Stands file.now (bytes_from file.now at) at }
-    ensures { Stands file.now (behindRun (kind_of digits) (bytes_from file.now at)) result }
+pub fn behind<F: Fn(u8) -> bool>(file: &[u8], kind: F, at: usize) -> usize
+    requires callable { F.IsAlwaysCallable kind }
+    requires stands { Stands file.now (bytes_from file.now at) at }
+    ensures { (test : ℕ → Bool) → Computes (F.post kind) test
+        → Stands file.now (behindRun test (bytes_from file.now at)) result }
 {
     let mut k = at;
-    while k < file.len() {
-        if !is_kind(digits, file[k]) {
-            return k;
-        }
+    while k < file.len() && kind(file[k]) {
         k = next(file, k + 1);
     }
     k
 }
 
-// A number with one digit more; told as the largest number where it is beyond 64 bits, which a quotient tells first.
+// A number with one digit more, told as the largest number where it is beyond 64 bits.
 fn grown(n: usize, b: u8) -> usize
     requires { is_digit b ≡ true }
     ensures { result ≡ told (n * 10 + (b - 48)) }
 {
-    let digit = (b - b'0') as usize;
-    if (LARGEST - digit) / 10 < n {
-        return LARGEST;
-    }
-    n * 10 + digit
+    n.saturating_mul(10).saturating_add((b - b'0') as usize)
 }
 
 // The number that the digits from here on make, any number of them, as it is told.
@@ -114,12 +97,8 @@ pub fn number_at(file: &[u8], at: usize) -> usize
 {
     let mut n: usize = 0;
     let mut k = at;
-    while k < file.len() {
-        let b = file[k];
-        if !is_digit(b) {
-            return n;
-        }
-        n = grown(n, b);
+    while k < file.len() && is_digit(file[k]) {
+        n = grown(n, file[k]);
         k = next(file, k + 1);
     }
     n

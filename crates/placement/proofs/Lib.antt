@@ -1,3 +1,2 @@
-mod Decisions
 pub mod Laws
 pub mod Worked

@@ -2,22 +2,23 @@
 ghost use Rattle.std.specs.Prelude.{◌≡◌};
 ghost use Rattle.refusal.specs.Chain.{unless, ◌then◌};
 
-use super::{Answer, Refusal, report};
+use super::{Refusal, Refused};
 
 // Done, without any work, or the refusal at its place.
-pub fn refuse_unless(test: bool, refusal: Refusal, at: usize) -> Answer
+pub fn refuse_unless(test: bool, refusal: Refusal, at: usize) -> Result<u64, Refused>
     ensures { result ≡ unless test refusal at }
 {
     if test {
-        Answer::Done(0)
+        Ok(0)
     } else {
-        Answer::Refused(refusal, at)
+        Err(Refused { refusal, at })
     }
 }
 
 // The first judgement if it is a refusal, else the second.
-pub fn first_refusal(a: Answer, b: Answer) -> Answer
+// Stays: `?` does it in these crates; this is a promise of the crate's own (docs/PROMISES.md), with wrong programs.
+pub fn first_refusal(a: Result<u64, Refused>, b: Result<u64, Refused>) -> Result<u64, Refused>
     ensures { result ≡ (a then b) }
 {
-    if report::is_done(a) { b } else { a }
+    a.and(b)
 }

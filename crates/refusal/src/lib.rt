@@ -1,10 +1,11 @@
 // What a reader or a job answers: that it is done, with its work, or a refusal with its place. No function has a
-// `requires`. The definitions stand in specs/: Refusal (the numbers), Answer (number, place and work), Chain
-// (judgements one after the other, and their laws). A further refusal is one case here and one number in `report` and
-// specs/Refusal.
+// `requires`. The definitions stand in specs/: Refusal (the numbers), Answer (what an answer is; its number, place and
+// work), Chain (judgements one after the other, and their laws). A further refusal is one case here and one number in
+// `report` and specs/Refusal.
 #![tactic(auto)]
 
 pub mod chain; // chain.rt: judgements one after the other
+mod printed; // printed.rt: a refusal as the programs print it
 pub mod report; // report.rt: an answer as numbers
 
 // Why nothing is done: the refusals 1 to 14 of document 01, in this order, and those that came later.
@@ -39,10 +40,10 @@ pub enum Later {
     NumbersTooFew, // ours, 100, of every call that is lent a buffer of numbers: the buffer is too short
 }
 
-// Done, with the work; or refused, with the place: the head of a field, a byte of a file, a box's number, the numbers
-// needed, or 0.
+// What is refused, and its place: the head of a field, a byte of a file, a box's number, the numbers needed, or 0. An
+// answer is a `Result` with this as its error: `Ok` with the work, or `Err` with the refusal.
 #[derive(Clone, Copy)]
-pub enum Answer {
-    Done(u64),
-    Refused(Refusal, usize),
+pub struct Refused {
+    pub refusal: Refusal,
+    pub at: usize,
 }

@@ -3,7 +3,7 @@ ghost use Rattle.std.specs.Prelude.{◌≡◌};
 ghost use Rattle.refusal.specs.Refusal.{later_number, refusal_number};
 ghost use Rattle.refusal.specs.Answer.{number_of, place_of, work_in, is_done};
 
-use super::{Answer, Later, Refusal};
+use super::{Later, Refusal, Refused};
 
 // The number that document 02 gives a refusal. 1 to 25 are the documents'; ours is 100.
 fn later_number(r: Later) -> usize
@@ -42,39 +42,34 @@ pub fn refusal_number(r: Refusal) -> usize
     }
 }
 
-pub fn number(a: Answer) -> usize
+pub fn number(a: Result<u64, Refused>) -> usize
     ensures { result ≡ number_of a }
 {
     match a {
-        Answer::Done(_) => 0,
-        Answer::Refused(refusal, _) => refusal_number(refusal),
+        Ok(_) => 0,
+        Err(refused) => refusal_number(refused.refusal),
     }
 }
 
-pub fn place(a: Answer) -> usize
+pub fn place(a: Result<u64, Refused>) -> usize
     ensures { result ≡ place_of a }
 {
     match a {
-        Answer::Done(_) => 0,
-        Answer::Refused(_, at) => at,
+        Ok(_) => 0,
+        Err(refused) => refused.at,
     }
 }
 
-pub fn work(a: Answer) -> u64
+pub fn work(a: Result<u64, Refused>) -> u64
     ensures { result ≡ work_in a }
 {
-    match a {
-        Answer::Done(work) => work,
-        Answer::Refused(_, _) => 0,
-    }
+    a.unwrap_or(0)
 }
 
 // Whether nothing is refused.
-pub fn is_done(a: Answer) -> bool
+// Stays: `?` and `match` do it in these crates; this is a promise of the crate's own (docs/PROMISES.md).
+pub fn is_done(a: Result<u64, Refused>) -> bool
     ensures { result ≡ is_done a }
 {
-    match a {
-        Answer::Done(_) => true,
-        Answer::Refused(_, _) => false,
-    }
+    a.is_ok()
 }

@@ -24,19 +24,11 @@ module _ (g : Grid) (profile reaches : List ℕ) (R t : ℕ) (at : Row g profile
   pub name : (x : ℕ) → x < g.width → line_name g R x ≡ g.width + drift g.line t - x
   name x h = bounds.name_at g profile reaches R t x (pixel x h)
 
-  -- the rows before it, and their places
+  -- the rows before it
   pub rows_back : (k : ℕ) → k ≤ t → k * g.period ≤ R
   rows_back k h =
       let less : k * g.period ≤ t * g.period = mul-le-mul_right g.period h in
       omega (arith, here.rows)
-
-  pub place_near : (r : ℕ) → r ≤ R → r * g.width ≤ 8192 * 8192
-  place_near r h =
-      let low : r ≤ 8192 = omega (arith, at.row, at.sized.height_most) in
-      bounds.product low at.sized.width_most
-
-  pub own_near : R * g.width ≤ 8192 * 8192
-  own_near = place_near R (omega arith)
 
   module _ (b : ℕ) where
     pub row_on : start_row g R + (t + b) * period g.line ≡ R + b * g.period
@@ -85,19 +77,12 @@ module _ (g : Grid) (profile reaches : List ℕ) (R t : ℕ) (at : Row g profile
         place_is = ap₂ (λ (d e : ℕ). (R + b * g.period) * g.width + (d - e)) there_drift own_drift
 
         -- all columns that are left on the page, or none
-        pub far_some : there - own < g.width → FarEdge g R t b (g.width - (there - own))
-        far_some h = record {
+        pub far_on : FarEdge g R t b (g.width - (there - own))
+        far_on = record {
           most = omega arith;
           left = λ y k.
               let n = name y (omega arith) in
               record { row = omega (arith, row_on); left = omega (arith, on.rises); right = omega (arith, on.rises, there_drift, own_drift) };
-          right = λ y k l o. let r = o.right in omega (arith, name y l, on.rises, there_drift, own_drift);
-        }
-
-        pub far_none : g.width ≤ there - own → FarEdge g R t b 0
-        far_none h = record {
-          most = omega arith;
-          left = λ y k. absurd (omega arith);
           right = λ y k l o. let r = o.right in omega (arith, name y l, on.rises, there_drift, own_drift);
         }
 

@@ -1,21 +1,18 @@
 -- Runs of bytes: one more byte, and that what is still to be read has not been written. Assumes nothing.
-use mathlib.Core.Path.{◌≡◌, refl, ap, ◌∙◌}
+use mathlib.Core.Path.{◌≡◌, refl, subst, ap, ◌∙◌}
 use mathlib.Core.Bool.{Bool, cond}
 use mathlib.Core.List.{List}
-use mathlib.Core.Logic.{inl, inr, ⊎_elim}
-use Prim.Native.Nat.{ℕ, ◌+◌, ◌≤◌, ◌<◌}
+use mathlib.Core.Logic.{⊎_elim}
+use Prim.Native.Nat.{ℕ, ◌+◌, ◌-◌, ◌≤◌, ◌<◌}
 use native.Mathlib.Nat.{zero-add}
 use native.Mathlib.Omega.{arith}
 use borrow.Author.Count.{below_more}
-use lib.ListN.{length, get_or, set, length-set}
+use lib.ListN.{length, get_or, take, drop, set, length-set}
+use Rattle.std.proofs.lemmas.List.{length-take, length-drop, get_or-take, get_or-drop}
 use lib.Seq.{get_or-set_same, get_or-set_other}
 use Rattle.runs.specs.Scratch.{total}
-use Rattle.runs.specs.Runs.{Apart, Filled, compared_of}
-use Rattle.runs.proofs.Totals.{total_more, total_most, cond_most}
-
--- a part of a run
-pub apart_part : (to from n k m : ℕ) → Apart to from n → k + m ≤ n → Apart (to + k) (from + k) m
-apart_part to from n k m apart h = ⊎_elim (λ behind. inl (omega arith)) (λ before. inr (omega arith)) apart
+use Rattle.runs.specs.Runs.{Apart, Filled, ChosenUnless, kept_or, compared_of}
+use Rattle.runs.proofs.Totals.{total_more, total_most, total_alike, cond_most}
 
 pub filled_none : (to : ℕ) (value : ℕ → ℕ) (old : List ℕ) → Filled to 0 value old old
 filled_none to value old =
@@ -47,10 +44,6 @@ module _ (to k : ℕ) (value : ℕ → ℕ) (old new : List ℕ) (done : Filled 
 pub filled_as : (to n : ℕ) (value value' : ℕ → ℕ) (old new : List ℕ) → ((k : ℕ) → k < n → value k ≡ value' k) → Filled to n value old new → Filled to n value' old new
 filled_as to n value value' old new same filled = record { kept = filled.kept; made = λ k h. filled.made k h ∙ same k h }
 
--- a run that stands where it is written
-pub filled_own : (to n : ℕ) (value : ℕ → ℕ) (old : List ℕ) → ((k : ℕ) → k < n → get_or old (to + k) 0 ≡ value k) → Filled to n value old old
-filled_own to n value old same = record { kept = record { same_length = refl; below = λ k h. refl; above = λ k h. refl }; made = same }
-
 -- ---- comparisons counted where a byte is not kept
 
 pub compared_more : (keeps : ℕ → Bool) (k count more : ℕ) → count ≡ total (compared_of keeps) 0 k → more ≡ cond (keeps k) 0 1 → count + more ≡ total (compared_of keeps) 0 (k + 1)
@@ -58,3 +51,32 @@ compared_more keeps k count more so_far one = omega (arith, total_more (compared
 
 pub compared_few : (keeps : ℕ → Bool) (k : ℕ) → total (compared_of keeps) 0 k ≤ k
 compared_few keeps k = total_most (compared_of keeps) (λ i. cond_most (keeps i)) 0 k
+
+pub counted_few : (keeps : ℕ → Bool) (k count : ℕ) → count ≡ total (compared_of keeps) 0 k → count ≤ k
+counted_few keeps k count is = omega (arith, is, compared_few keeps k)
+
+-- ---- the marks of a part of the columns, cut out of all
+
+module _ (marks : List ℕ) (at n : ℕ) (fits : at + n ≤ length marks) where
+  abbrev own : List ℕ
+  own = take (at + n - at) (drop at marks)
+
+  own_length : length own ≡ n
+  own_length =
+      let whole : at + n - at ≡ n = omega arith in
+      length-take (at + n - at) (drop at marks) ∙ omega (arith, length-drop at marks)
+
+  own_read : (k : ℕ) → k < n → get_or own k 0 ≡ get_or marks (at + k) 0
+  own_read k h = get_or-take (at + n - at) (drop at marks) k 0 (omega arith) ∙ get_or-drop at marks k 0
+
+  pub chosen_own : (low : Bool) (kept : ℕ → Bool) (to first second : ℕ) (old new : List ℕ) → ChosenUnless low (λ k. kept (get_or own k 0)) to first second (length own) old new
+      → ChosenUnless low (λ k. kept (get_or marks (at + k) 0)) to first second n old new
+  chosen_own low kept to first second old new chosen =
+      let read : ℕ → Bool → ℕ = λ k keep. kept_or low keep (get_or old (first + k) 0) (get_or old (second + k) 0) in
+      filled_as to n _ _ old new (λ k h. ap (λ (q : ℕ). read k (kept q)) (own_read k h))
+      (subst (λ (m : ℕ). ChosenUnless low (λ k. kept (get_or own k 0)) to first second m old new) own_length chosen)
+
+  pub compared_own : (kept : ℕ → Bool) → total (compared_of (λ k. kept (get_or own k 0))) 0 (length own) ≡ total (compared_of (λ k. kept (get_or marks (at + k) 0))) 0 n
+  compared_own kept =
+      ap (total (compared_of (λ k. kept (get_or own k 0))) 0) own_length
+      ∙ total_alike (compared_of (λ k. kept (get_or own k 0))) (compared_of (λ k. kept (get_or marks (at + k) 0))) 0 n (λ i lo hi. ap (λ (q : ℕ). cond (kept q) 0 1) (own_read i (omega arith)))

@@ -1,6 +1,6 @@
 -- When the lines of a row entered and which of its pixels begin a block, and that a plan is carried out part by
 -- part. Assumes nothing.
-use mathlib.Core.Path.{◌≡◌, refl, sym, ap, ap₂, ◌∙◌}
+use mathlib.Core.Path.{◌≡◌, refl, sym, subst, ap, ap₂, ◌∙◌}
 use mathlib.Core.Bool.{Bool, true, false, cond}
 use mathlib.Core.List.{List}
 use mathlib.Core.Logic.{◌⊎◌, inl, inr, ⊎_elim, by_cases}
@@ -17,7 +17,7 @@ use Rattle.runs.specs.Grid.{line_name, entry}
 use Rattle.runs.specs.GridLaws.{entry_at_lem, entry_by}
 use Rattle.runs.specs.Scratch.{total}
 use Rattle.runs.specs.Span.{chosen}
-use Rattle.runs.specs.Runs.{Apart, Filled, Copied, Chosen, kept_or, compared_of, TopMade, Row, entry_at, EdgeAt, Marked, in_block, Planned, Walked}
+use Rattle.runs.specs.Runs.{Apart, Filled, Copied, Chosen, ChosenUnless, kept_or, compared_of, TopMade, Row, entry_at, EdgeAt, Marked, in_block, Planned, Walked}
 use Rattle.runs.specs.declared.Grid.{Grid}
 use Rattle.runs.specs.declared.Plan.{Plan}
 use Rattle.runs.proofs.Bounds.{some_length, entry_zero, entry_reach}
@@ -46,10 +46,6 @@ module _ (g : Grid) (profile reaches : List ℕ) (R t : ℕ) (at : Row g profile
   entry_own x h = entry_early x t h (omega arith)
 
   -- ---- edges
-
-  pub edge_none : (e less hi : ℕ) → e < less → EdgeAt g R t e less hi hi
-  edge_none e less hi h =
-      record { most = omega arith; left = λ y k. omega arith; right = λ y lo k. absurd (omega arith); exact = λ k. absurd (omega arith) }
 
   pub edge_some : (e less hi : ℕ) → less ≤ e → e ≤ t + less → hi ≤ g.width → EdgeAt g R t e less hi (min (drift g.line t - drift g.line (e - less)) hi)
   edge_some e less hi h k wide =
@@ -249,3 +245,18 @@ module _ (g : Grid) (profile reaches : List ℕ) (R t : ℕ) (at : Row g profile
       walked_more g R p old now new mid p.hi count from most (omega arith) planned walked (λ (k : ℕ). eqb (p.top % g.length) 0) made.made
       (λ y l h. top_keeps g profile reaches R t at p planned y (omega arith) h (past y l h)) more
       (made.counted ∙ sym (total_same (compared_of (λ (k : ℕ). eqb (p.top % g.length) 0)) (cond (eqb (p.top % g.length) 0) 0 1) 0 (p.hi - mid) (λ k l h. refl)))
+
+-- columns by their marks carry a plan on
+module _ (g : Grid) (profile reaches : List ℕ) (R t : ℕ) (at : Row g profile reaches R t) (p : Plan) (planned : Planned g R p) (marks : List ℕ) (marked : Marked g marks) (old now new : List ℕ) (x end count more place upto : ℕ) where
+  -- what is kept in the columns from x on
+  abbrev keeps : ℕ → Bool
+  keeps k = eqb (get_or marks (place + k) 0) (p.top % g.length)
+
+  pub walked_marks : end ≡ upto → p.lo ≤ x → x ≤ end → end ≤ p.hi → end ≤ drift g.line t + 32 → place ≡ x + g.height - drift g.line t → Walked g R p x old now count
+      → ChosenUnless g.low keeps (p.to + (x - p.lo)) (p.first + (x - p.lo)) (p.second + (x - p.lo)) (end - x) now new → more ≡ total (compared_of keeps) 0 (end - x)
+      → Walked g R p upto old new (count + more)
+  walked_marks same from on most near is walked made counted =
+      let low = (here g profile reaches R t at).drift_below in
+      subst (λ (n : ℕ). Walked g R p n old new (count + more)) same
+      (walked_more g R p old now new x end count from on most planned walked keeps made
+      (λ y l h. mark_keeps g profile reaches R t at p planned marks y _ marked (omega arith) (omega arith) (omega arith) (omega arith)) more counted)

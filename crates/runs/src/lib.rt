@@ -11,6 +11,7 @@
 //     marks   where the lines of side columns are in their blocks
 //     run     runs of neighbouring bytes: copied, or compared and counted
 //     step    where the steps of a pixel's line stand
+//     tables  a page with the tables of its line, and a row of it
 #![tactic(auto)]
 
 use geometry::Line;
@@ -18,6 +19,7 @@ use geometry::Line;
 pub mod marks;
 pub mod run;
 pub mod step;
+pub mod tables;
 pub mod walk;
 
 // The page's sides, its line, and the window: how far it reaches back and on from a pixel, and its length, back + 1

@@ -2,10 +2,10 @@
 // the order of the columns. Some columns at the drift and right of it have marks too, so that a row's columns can
 // be taken thirty-two at a time.
 ghost use Rattle.std.specs.Prelude.{◌≡◌, replicate};
-ghost use Rattle.runs.specs.Grid.{Sized, Tabled};
 ghost use Rattle.runs.specs.Runs.{Marked};
 
-use super::{Grid, step};
+use super::step;
+use super::tables::Tables;
 
 // Marks for the longest side, and the spare ones, all zero.
 pub fn no_marks() -> [u16; 8224]
@@ -14,16 +14,14 @@ pub fn no_marks() -> [u16; 8224]
     [0u16; 8224]
 }
 
-pub fn fill_marks(g: Grid, profile: &[usize], reaches: &[usize], marks: &mut [u16])
-    requires { Sized g × Tabled g profile.now reaches.now × (marks.old ≡ replicate 8224 0) }
-    ensures { Marked g marks.new }
+pub fn fill_marks(tables: &Tables, marks: &mut [u16])
+    requires { marks.old ≡ replicate 8224 0 }
+    ensures { Marked tables.now.grid marks.new }
 {
-    let height = g.height;
-    let length = g.length;
-    let mut v: usize = 1;
-    while v < height {
-        let entry = step::entry_of(reaches, v);
+    let height = tables.grid.height;
+    let length = tables.grid.length;
+    for v in 1..height {
+        let entry = step::entry_of(tables.reaches, v);
         marks[height - v] = (entry % length) as u16;
-        v += 1;
     }
 }

@@ -1,10 +1,10 @@
 // Where the steps of a pixel's line stand.
 ghost use Rattle.std.specs.Prelude.{◌≡◌, ◌+◌, ◌-◌, ◌*◌, ◌<◌, ◌≤◌, length, get_or};
 ghost use Rattle.geometry.specs.Drift.{drift};
-ghost use Rattle.runs.specs.Grid.{Pixel, start_row, line_name, entry, spot};
-ghost use Rattle.runs.specs.Runs.{Row, place_at};
+ghost use Rattle.runs.specs.Grid.{start_row, line_name, entry, spot};
+ghost use Rattle.runs.specs.Runs.{place_at};
 
-use super::Grid;
+use super::tables::RowAt;
 
 // An entry of a table.
 pub fn entry_of(table: &[usize], at: usize) -> usize
@@ -15,46 +15,34 @@ pub fn entry_of(table: &[usize], at: usize) -> usize
 }
 
 // The step at which the line through (row, x) enters the page.
-pub fn entry_at(
-    g: Grid,
-    profile: &[usize],
-    reaches: &[usize],
-    row: usize,
-    step: usize,
-    x: usize,
-) -> usize
-    requires { Pixel g profile.now reaches.now row step x }
-    ensures { result ≡ entry g (line_name g row x) }
+pub fn entry_at(at: &RowAt, x: usize) -> usize
+    requires { x < at.now.tables.grid.width }
+    ensures { result ≡ entry at.now.tables.grid (line_name at.now.tables.grid at.now.row x) }
 {
-    let drift = entry_of(profile, step);
+    let drift = entry_of(at.tables.profile, at.step);
     if drift <= x {
         0
     } else {
-        entry_of(reaches, drift - x)
+        entry_of(at.tables.reaches, drift - x)
     }
 }
 
 // The place in a page of step `to` of the line through (row, x), or the page's size where that step is off the page.
-pub fn spot_at(
-    g: Grid,
-    profile: &[usize],
-    reaches: &[usize],
-    row: usize,
-    step: usize,
-    x: usize,
-    to: usize,
-) -> usize
-    requires { Pixel g profile.now reaches.now row step x × (to ≤ 32768) }
-    ensures { result ≡ spot g (start_row g row) (line_name g row x) to }
+// Stays: a number for no place, no Option: the promise is `spot`, a number at every step, which theorems name.
+pub fn spot_at(at: &RowAt, x: usize, to: usize) -> usize
+    requires { (x < at.now.tables.grid.width) × (to ≤ 32768) }
+    ensures { result ≡ spot at.now.tables.grid (start_row at.now.tables.grid at.now.row)
+        (line_name at.now.tables.grid at.now.row x) to }
 {
+    let g = at.tables.grid;
     let none = g.height * g.width;
-    let start = row - step * g.period;
+    let start = at.row - at.step * g.period;
     let target = start + to * g.period;
     if target >= g.height {
         return none;
     }
-    let reached = x + entry_of(profile, to);
-    let from = entry_of(profile, step);
+    let reached = x + entry_of(at.tables.profile, to);
+    let from = entry_of(at.tables.profile, at.step);
     if reached < from {
         return none;
     }
@@ -66,19 +54,14 @@ pub fn spot_at(
 }
 
 // The place in a page of a step of the line of column x.
-pub fn place_at(
-    g: Grid,
-    profile: &[usize],
-    reaches: &[usize],
-    row: usize,
-    step: usize,
-    to: usize,
-    x: usize,
-) -> usize
-    requires row { Row g profile.now reaches.now row step × (row - step * g.period + to * g.period < g.height) }
-    requires to_bound { (to ≤ 32768) × (x ≤ g.width) × (drift g.line step ≤ x + drift g.line to) }
-    ensures { result ≡ place_at g row step to x }
+pub fn place_at(at: &RowAt, to: usize, x: usize) -> usize
+    requires row { at.now.row - at.now.step * at.now.tables.grid.period + to * at.now.tables.grid.period
+        < at.now.tables.grid.height }
+    requires to_bound { (to ≤ 32768) × (x ≤ at.now.tables.grid.width) ×
+        (drift at.now.tables.grid.line at.now.step ≤ x + drift at.now.tables.grid.line to) }
+    ensures { result ≡ place_at at.now.tables.grid at.now.row at.now.step to x }
 {
-    let target = row - step * g.period + to * g.period;
-    target * g.width + (x + entry_of(profile, to) - entry_of(profile, step))
+    let g = at.tables.grid;
+    let target = at.row - at.step * g.period + to * g.period;
+    target * g.width + (x + entry_of(at.tables.profile, to) - entry_of(at.tables.profile, at.step))
 }

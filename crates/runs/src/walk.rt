@@ -1,151 +1,107 @@
 // A part of a row made by its plan.
-ghost use Rattle.std.specs.Prelude.{◌≡◌, ◌+◌, ◌-◌, ◌<◌, ◌≤◌, min, max, eqb, length, get_or};
+ghost use Rattle.std.specs.Prelude.{◌≡◌, ◌+◌, ◌-◌, ◌<◌, ◌≤◌, eqb, length, get_or};
 ghost use Rattle.geometry.specs.Drift.{drift};
-ghost use Rattle.runs.specs.Grid.{Sized};
 ghost use Rattle.runs.specs.Scratch.{size, total};
-ghost use Rattle.runs.specs.Runs.{Row, EdgeAt, Marked, Planned, Walked, TopMade, Copied, Chosen, ChosenUnless};
+ghost use Rattle.runs.specs.Runs.{EdgeAt, Planned, Walked, TopMade, Copied, Chosen, ChosenUnless};
 ghost use Rattle.runs.specs.Runs.{compared_of};
 
-use super::{Grid, Plan, run, step};
-
-// Of two columns the one further right, and the one further left.
-pub fn later(a: usize, b: usize) -> usize
-    ensures { result ≡ max a b }
-{
-    if a < b { b } else { a }
-}
-
-pub fn nearer(a: usize, b: usize) -> usize
-    ensures { result ≡ min a b }
-{
-    if a < b { a } else { b }
-}
+use super::tables::{MarkedRow, RowAt};
+use super::{Plan, run, step};
 
 // Of the columns below hi, the first whose line entered `less` steps before step e or earlier.
-pub fn edge(
-    g: Grid,
-    profile: &[usize],
-    reaches: &[usize],
-    row: usize,
-    step: usize,
-    e: usize,
-    less: usize,
-    hi: usize,
-) -> usize
-    requires { Row g profile.now reaches.now row step × (hi ≤ g.width) × (e ≤ step + less) }
-    ensures { EdgeAt g row step e less hi result }
+pub fn edge(at: &RowAt, e: usize, less: usize, hi: usize) -> usize
+    requires { (hi ≤ at.now.tables.grid.width) × (e ≤ at.now.step + less) }
+    ensures { EdgeAt at.now.tables.grid at.now.row at.now.step e less hi result }
 {
     if e < less {
         return hi;
     }
-    let column = step::entry_of(profile, step) - step::entry_of(profile, e - less);
-    nearer(column, hi)
+    let profile = at.tables.profile;
+    let column = step::entry_of(profile, at.step) - step::entry_of(profile, e - less);
+    column.min(hi)
 }
 
 // The columns from one up to another, whose lines are all at a block's first step: the first run is copied.
-fn copy_part(g: Grid, bytes: &mut [u8], row: usize, p: Plan, from: usize, to: usize)
-    requires sized { Sized g × Planned g row p × (size g + size g ≤ length bytes.old) }
+// Stays: `Planned` in each contract of a part, no ghost field of a row with its plan: such a fact has at most one
+// proof, and an empty run that is read where it is written is `Apart` from itself in two ways.
+fn copy_part(at: &RowAt, bytes: &mut [u8], p: Plan, from: usize, to: usize)
+    requires planned { Planned at.now.tables.grid at.now.row p ×
+        (size at.now.tables.grid + size at.now.tables.grid ≤ length bytes.old) }
     requires lo_le_from { (p.lo ≤ from) × (from ≤ to) × (to ≤ p.hi) }
     ensures { Copied (p.to + (from - p.lo)) (p.first + (from - p.lo)) (to - from) bytes.old
         bytes.new }
 {
-    let at = from - p.lo;
-    run::copy_run(bytes, p.to + at, p.first + at, to - from);
+    let past = from - p.lo;
+    run::copy_run(bytes, p.to + past, p.first + past, to - from);
 }
 
 // The same where none of them is.
-fn choose_part(g: Grid, bytes: &mut [u8], row: usize, p: Plan, from: usize, to: usize) -> usize
-    requires sized { Sized g × Planned g row p × (size g + size g ≤ length bytes.old) }
+fn choose_part(at: &RowAt, bytes: &mut [u8], p: Plan, from: usize, to: usize) -> usize
+    requires planned { Planned at.now.tables.grid at.now.row p ×
+        (size at.now.tables.grid + size at.now.tables.grid ≤ length bytes.old) }
     requires lo_le_from { (p.lo ≤ from) × (from ≤ to) × (to ≤ p.hi) }
-    ensures { Chosen g.low (p.to + (from - p.lo)) (p.first + (from - p.lo)) (p.second + (from - p.lo))
-        (to - from) bytes.old bytes.new × (result ≡ to - from) }
+    ensures { Chosen at.now.tables.grid.low (p.to + (from - p.lo)) (p.first + (from - p.lo))
+        (p.second + (from - p.lo)) (to - from) bytes.old bytes.new × (result ≡ to - from) }
 {
-    let at = from - p.lo;
+    let low = at.tables.grid.low;
+    let past = from - p.lo;
+    let (own, first, second) = (p.to + past, p.first + past, p.second + past);
     if p.first == p.to {
-        return run::choose_into(g.low, bytes, p.to + at, p.second + at, to - from);
+        return run::choose_run(low, bytes, own, own, second, to - from);
     }
-    run::choose_run(
-        g.low,
-        bytes,
-        p.to + at,
-        p.first + at,
-        p.second + at,
-        to - from,
-    )
+    run::choose_run(low, bytes, own, first, second, to - from)
 }
 
-// At most 224 columns, each as its mark says.
+// At most 224 columns, each as its mark says; theirs stand from `place` on.
 fn mark_part(
-    g: Grid,
-    marks: &[u16],
+    row: &MarkedRow,
     bytes: &mut [u8],
-    row: usize,
     p: Plan,
     from: usize,
     to: usize,
     place: usize,
     mark: u16,
 ) -> usize
-    requires sized { Sized g × Planned g row p × (size g + size g ≤ length bytes.old) }
+    requires planned { Planned row.now.at.tables.grid row.now.at.row p ×
+        (size row.now.at.tables.grid + size row.now.at.tables.grid ≤ length bytes.old) }
     requires lo_le_from { (p.lo ≤ from) × (from ≤ to) × (to ≤ p.hi) × (to ≤ from + 224) ×
-        (place + (to - from) ≤ length marks.now) }
-    ensures { ChosenUnless g.low (λ k. eqb (get_or marks.now (place + k) 0) mark)
+        (place + (to - from) ≤ length row.now.marks.now) }
+    ensures { ChosenUnless row.now.at.tables.grid.low
+        (λ k. eqb (get_or row.now.marks.now (place + k) 0) mark)
         (p.to + (from - p.lo)) (p.first + (from - p.lo)) (p.second + (from - p.lo)) (to - from)
         bytes.old bytes.new ×
-        (result ≡ total (compared_of (λ k. eqb (get_or marks.now (place + k) 0) mark)) 0 (to - from)) }
+        (result ≡ total (compared_of (λ k. eqb (get_or row.now.marks.now (place + k) 0) mark)) 0 (to - from)) }
 {
-    let at = from - p.lo;
+    let low = row.at.tables.grid.low;
+    let marks = &row.marks[place..place + (to - from)];
+    let past = from - p.lo;
+    let (own, first, second) = (p.to + past, p.first + past, p.second + past);
+    let keeps = move |m| m == mark;
     if p.first == p.to {
-        return run::mark_into(
-            g.low,
-            bytes,
-            marks,
-            place,
-            mark,
-            p.to + at,
-            p.second + at,
-            to - from,
-        );
+        return run::marked_run(low, bytes, marks, own, own, second, keeps);
     }
-    run::mark_run(
-        g.low,
-        bytes,
-        marks,
-        place,
-        mark,
-        p.to + at,
-        p.first + at,
-        p.second + at,
-        to - from,
-    )
+    run::marked_run(low, bytes, marks, own, first, second, keeps)
 }
 
 // The columns up to mid, by their marks: those whose lines entered from the side, and a few right of them.
-fn side_part(
-    g: Grid,
-    profile: &[usize],
-    reaches: &[usize],
-    marks: &[u16],
-    bytes: &mut [u8],
-    row: usize,
-    step: usize,
-    p: Plan,
-    mid: usize,
-) -> usize
-    requires row { Row g profile.now reaches.now row step × Planned g row p ×
-        (size g + size g ≤ length bytes.old) }
-    requires marked { Marked g marks.now × (p.lo ≤ mid) × (mid ≤ p.hi) ×
-        (p.lo < mid → mid ≤ drift g.line step + 31) }
-    ensures { Walked g row p mid bytes.old bytes.new result }
+fn side_part(row: &MarkedRow, bytes: &mut [u8], p: Plan, mid: usize) -> usize
+    requires planned { Planned row.now.at.tables.grid row.now.at.row p ×
+        (size row.now.at.tables.grid + size row.now.at.tables.grid ≤ length bytes.old) }
+    requires near { (p.lo ≤ mid) × (mid ≤ p.hi) ×
+        (p.lo < mid → mid ≤ drift row.now.at.tables.grid.line row.now.at.step + 31) }
+    ensures { Walked row.now.at.tables.grid row.now.at.row p mid bytes.old bytes.new result }
 {
-    let drift = step::entry_of(profile, step);
+    let g = row.at.tables.grid;
+    let drift = step::entry_of(row.at.tables.profile, row.at.step);
     let mark = (p.top % g.length) as u16;
     let mut count: usize = 0;
+    // Stays: a `while`: as `for x in (p.lo..mid).step_by(224)` (tried) the plans took 15 in 100 more instructions, and
+    // slanted lines 4 in 100 more time, since the compiler then computes each part's places anew.
     let mut x = p.lo;
     while x < mid {
-        let end = nearer(mid, x + 224);
+        let end = mid.min(x + 224);
         let place = x + g.height - drift;
-        count += mark_part(g, marks, bytes, row, p, x, end, place, mark);
+        count += mark_part(row, bytes, p, x, end, place, mark);
         x = end;
     }
     count
@@ -161,36 +117,27 @@ fn rounded(lo: usize, mid: usize) -> usize
 }
 
 // The columns from mid on, whose lines entered in the page's first row: all are as far into their blocks.
-fn top_part(g: Grid, bytes: &mut [u8], row: usize, p: Plan, mid: usize) -> usize
-    requires { Sized g × Planned g row p × (size g + size g ≤ length bytes.old) × (p.lo ≤ mid) × (mid ≤ p.hi) }
-    ensures { TopMade g p mid bytes.old bytes.new result }
+fn top_part(at: &RowAt, bytes: &mut [u8], p: Plan, mid: usize) -> usize
+    requires { Planned at.now.tables.grid at.now.row p ×
+        (size at.now.tables.grid + size at.now.tables.grid ≤ length bytes.old) × (p.lo ≤ mid) × (mid ≤ p.hi) }
+    ensures { TopMade at.now.tables.grid p mid bytes.old bytes.new result }
 {
-    if p.top % g.length == 0 {
-        copy_part(g, bytes, row, p, mid, p.hi);
+    if p.top % at.tables.grid.length == 0 {
+        copy_part(at, bytes, p, mid, p.hi);
         return 0;
     }
-    choose_part(g, bytes, row, p, mid, p.hi)
+    choose_part(at, bytes, p, mid, p.hi)
 }
 
 // The plan carried out. It answers its comparisons.
-pub fn walk(
-    g: Grid,
-    profile: &[usize],
-    reaches: &[usize],
-    marks: &[u16],
-    bytes: &mut [u8],
-    row: usize,
-    step: usize,
-    p: Plan,
-) -> usize
-    requires row { Row g profile.now reaches.now row step × Planned g row p ×
-        (size g + size g ≤ length bytes.old) }
-    requires marked { Marked g marks.now }
-    ensures { Walked g row p p.hi bytes.old bytes.new result }
+pub fn walk(row: &MarkedRow, bytes: &mut [u8], p: Plan) -> usize
+    requires { Planned row.now.at.tables.grid row.now.at.row p ×
+        (size row.now.at.tables.grid + size row.now.at.tables.grid ≤ length bytes.old) }
+    ensures { Walked row.now.at.tables.grid row.now.at.row p p.hi bytes.old bytes.new result }
 {
-    let drifted = later(p.lo, step::entry_of(profile, step));
-    let mid = nearer(rounded(p.lo, drifted), p.hi);
-    let side = side_part(g, profile, reaches, marks, bytes, row, step, p, mid);
-    let top = top_part(g, bytes, row, p, mid);
+    let drifted = p.lo.max(step::entry_of(row.at.tables.profile, row.at.step));
+    let mid = rounded(p.lo, drifted).min(p.hi);
+    let side = side_part(row, bytes, p, mid);
+    let top = top_part(&row.at, bytes, p, mid);
     side + top
 }

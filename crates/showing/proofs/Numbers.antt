@@ -1,41 +1,41 @@
 -- A ticket put into a buffer of numbers, store by store. Assumes nothing.
 use mathlib.Core.Path.{◌≡◌, refl, sym, ap, ◌∙◌}
-use mathlib.Core.List.{List, [], ◌∷◌, ◌++◌}
-use Prim.Native.Nat.{ℕ, suc, ◌+◌, ◌*◌, ◌<◌, ◌≤◌}
+use mathlib.Core.List.{List, [], ◌∷◌, ◌++◌, append_assoc}
+use Prim.Native.Nat.{ℕ, suc, ◌+◌, ◌-◌, ◌*◌, ◌<◌, ◌≤◌}
 use native.Mathlib.Nat.{zero-add}
 use native.Mathlib.Numerals.{add-one}
 use native.Mathlib.Omega.{arith}
-use lib.ListN.{length, get_or, set, drop}
-use lib.Seq.{sets, sets-eq, length-sets, drop-cons, drop-length}
+use lib.ListN.{length, get_or, take, drop}
+use lib.Seq.{sets, sets-eq, drop-cons, drop-drop, drop-length}
 use Rattle.ticket.specs.declared.HiddenBox.{HiddenBox}
 use Rattle.ticket.specs.declared.Ticket.{Ticket}
-use Rattle.showing.specs.Shown.{word_of, field_numbers, box_numbers, numbers_of}
+use Rattle.showing.specs.Shown.{field_numbers, box_numbers, numbers_of}
 
-pub four_stores : (l : List ℕ) (at a b c d : ℕ)
-    → set (set (set (set l at a) (at + 1) b) (at + 2) c) (at + 3) d ≡ sets l at (a ∷ b ∷ c ∷ d ∷ [])
-four_stores l at a b c d =
-    let one : at + 1 ≡ suc at = omega arith in
-    let two : at + 2 ≡ suc (suc at) = omega arith in
-    let three : at + 3 ≡ suc (suc (suc at)) = omega arith in
-    rw (one, two, three) refl
+pub fields_put : (t : Ticket) (l front : List ℕ) → 8 ≤ length l → front ≡ field_numbers t []
+    → front ++ drop 8 l ≡ sets l 0 (field_numbers t [])
+fields_put t l front room e =
+    ap (λ (x : List ℕ). x ++ drop 8 l) e ∙ sym (sets-eq (field_numbers t []) l 0 room)
 
-pub fields_put : (t : Ticket) (l : List ℕ) (dx dy : ℕ) → dx ≡ word_of t.dx → dy ≡ word_of t.dy
-    → sets l 0 (t.operation ∷ t.line ∷ dx ∷ dy ∷ t.length ∷ t.origin ∷ t.phase ∷ t.count ∷ []) ≡ sets l 0 (field_numbers t [])
-fields_put t l dx dy ex ey = rw (ex, ey) refl
+pub box_put : (b : HiddenBox) (at : ℕ) (l front : List ℕ) → at + 4 ≤ length l → front ≡ box_numbers (b ∷ [])
+    → take at l ++ (front ++ drop (at + 4 - at) (drop at l)) ≡ sets l at (box_numbers (b ∷ []))
+unfolding box_numbers
+box_put b at l front room e =
+    let four : at + 4 - at ≡ 4 = omega arith in
+    let four_numbers = box_numbers (b ∷ []) in
+    rw (e, four, drop-drop 4 at l)
+    (sym (sets-eq four_numbers l at room ∙ append_assoc (take at l) four_numbers (drop (at + 4) l)))
 
 module _ (boxes : List HiddenBox) (k : ℕ) (l : List ℕ) where
   pub box_more : (d : HiddenBox) (m : List ℕ) → k < length boxes
       → m ≡ sets l (8 + 4 * k) (box_numbers (get_or boxes k d ∷ []))
-      → (length m ≡ length l)
-      × (sets m (8 + 4 * (k + 1)) (box_numbers (drop (k + 1) boxes)) ≡ sets l (8 + 4 * k) (box_numbers (drop k boxes)))
+      → sets m (8 + 4 * (k + 1)) (box_numbers (drop (k + 1) boxes)) ≡ sets l (8 + 4 * k) (box_numbers (drop k boxes))
   unfolding box_numbers
   box_more d m h put =
-      let next : 8 + 4 * (k + 1) ≡ suc (suc (suc (suc (8 + 4 * k)))) = omega arith in (
-        ap length put ∙ length-sets l (8 + 4 * k) (box_numbers (get_or boxes k d ∷ [])),
-        rw (put, next, add-one k, drop-cons boxes k d h) refl,
-      )
+      let next : 8 + 4 * (k + 1) ≡ suc (suc (suc (suc (8 + 4 * k)))) = omega arith in
+      rw (put, next, add-one k, drop-cons boxes k d h) refl
 
-  pub boxes_put : (m : List ℕ) → k ≡ 64 → length boxes ≡ 64 → sets l (8 + 4 * k) (box_numbers (drop k boxes)) ≡ m → l ≡ m
+  pub boxes_put : (m : List ℕ) → k ≡ 64 → length boxes ≡ 64
+      → sets l (8 + 4 * k) (box_numbers (drop k boxes)) ≡ m → l ≡ m
   unfolding box_numbers
   boxes_put m e h put =
       let none : drop k boxes ≡ [] = ap (λ (j : ℕ). drop j boxes) (e ∙ sym h) ∙ drop-length boxes in

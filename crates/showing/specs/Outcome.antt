@@ -1,7 +1,6 @@
 -- An answer, as the numbers that a host reads.
 -- Assumes nothing.
-use Rattle.refusal.specs.Answer.{number_of, place_of, work_in}
-use Rattle.refusal.specs.declared.Answer.{Answer}
+use Rattle.refusal.specs.Answer.{number_of, place_of, work_in, Answer}
 use Rattle.showing.specs.declared.Outcome.{Outcome}
 
 -- the refusal's number, 0 for what is done; its place; the work

@@ -3,11 +3,12 @@
 -- boxes are zero." The document does not say in which order the numbers stand, nor what becomes of a buffer that is
 -- too short for them: both are decided here.
 -- Assumes nothing.
-use Rattle.std.specs.Prelude.{◌≡◌, ℕ, ◌-◌, ◌≤◌, cond, List, [], ◌∷◌, ◌++◌, length, drop, ltb, ℤ, pos, negsuc, nat_abs}
-use Rattle.refusal.specs.declared.Answer.TheVariants.{Refused}
+use Rattle.std.specs.Prelude.{◌≡◌, ℕ, ◌-◌, ◌≤◌, cond, List, [], ◌∷◌, ◌++◌, length, drop, replicate, ltb, ℤ, pos, negsuc, nat_abs}
+use Rattle.refusal.specs.Answer.{refused_at, when_done}
 use Rattle.refusal.specs.declared.Later.TheVariants.{NumbersTooFew}
 use Rattle.refusal.specs.declared.Refusal.TheVariants.{Later}
-use Rattle.ticket.specs.Reading.{reading}
+use Rattle.ticket.specs.Judging.{judged}
+use Rattle.ticket.specs.Reading.{operation_number, line_number, shown}
 use Rattle.ticket.specs.declared.HiddenBox.{HiddenBox}
 use Rattle.ticket.specs.declared.Ticket.{Ticket}
 use Rattle.showing.specs.Outcome.{outcome_of}
@@ -21,7 +22,8 @@ word_of (negsuc n) = 18446744073709551615 - n
 -- eight numbers, before the rest
 abbrev pub field_numbers : Ticket → List ℕ → List ℕ
 field_numbers t rest =
-    t.operation ∷ t.line ∷ word_of t.dx ∷ word_of t.dy ∷ t.length ∷ t.origin ∷ t.phase ∷ t.count ∷ rest
+    operation_number t.operation ∷ line_number t.line ∷ word_of t.dx ∷ word_of t.dy ∷ t.length ∷ t.origin ∷ t.phase ∷ t.count
+    ∷ rest
 
 -- four numbers a box
 unfoldable pub box_numbers : List HiddenBox → List ℕ
@@ -35,18 +37,22 @@ numbers_of t = field_numbers t (box_numbers t.boxes)
 abbrev pub numbers_needed : ℕ
 numbers_needed = 264
 
+-- the numbers of a ticket that is read; "at a refusal all fields and boxes are zero"
+unfoldable pub numbers_shown : List ℕ → List ℕ
+numbers_shown ticket = when_done (judged ticket) (numbers_of (shown ticket)) (replicate numbers_needed 0)
+
 -- refused for its length, with how many numbers are needed, where the buffer of n numbers is too short for them
 unfoldable pub read_outcome : List ℕ → ℕ → Outcome
 read_outcome ticket n =
-    cond (ltb n numbers_needed) (outcome_of (Refused (Later NumbersTooFew) numbers_needed))
-    (outcome_of (reading ticket).answer)
+    cond (ltb n numbers_needed) (outcome_of (refused_at (Later NumbersTooFew) numbers_needed))
+    (outcome_of (judged ticket))
 
 -- the buffer: too short a one is not written, and of a longer one the numbers past the 264th keep their values
 unfoldable pub numbers_after : List ℕ → List ℕ → List ℕ
 numbers_after ticket numbers =
-    cond (ltb (length numbers) numbers_needed) numbers (numbers_of (reading ticket).ticket ++ drop numbers_needed numbers)
+    cond (ltb (length numbers) numbers_needed) numbers (numbers_shown ticket ++ drop numbers_needed numbers)
 
--- what is known of the ticket that a reader shows, whatever its verdict
+-- what is known of a ticket that is read, as its numbers are put
 pub record Showable (t : Ticket) : Type 0 where
   pub dx_to : nat_abs t.dx ≤ 255
   pub dy_to : nat_abs t.dy ≤ 255

@@ -10,7 +10,7 @@ pub mod shown;
 ghost use Rattle.std.specs.Prelude.{◌≡◌};
 ghost use Rattle.showing.specs.Outcome.{outcome_of};
 
-use refusal::{Answer, report};
+use refusal::{Refused, report};
 
 // An answer: refusal is 0 for a finished page, a ticket that was read or a list that was run, else the number of the
 // refusal. 1 to 25 are the documents' (1 to 19 so far); 100 is ours and means a buffer of numbers that is too short.
@@ -23,7 +23,7 @@ pub struct Outcome {
 }
 
 // An answer as the numbers that a host reads.
-pub fn outcome_of(a: Answer) -> Outcome
+pub fn outcome_of(a: Result<u64, Refused>) -> Outcome
     ensures { result ≡ outcome_of a }
 {
     Outcome {

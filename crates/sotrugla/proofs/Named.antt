@@ -1,8 +1,8 @@
 -- What the job promises, said of the numbers that it was given. Assumes nothing.
 use mathlib.Core.Path.{◌≡◌, ap, ◌∙◌}
+use Rattle.refusal.specs.Answer.{Answer}
 use mathlib.Core.List.{List}
 use Prim.Native.Nat.{ℕ}
-use Rattle.refusal.specs.declared.Answer.{Answer}
 use Rattle.job.specs.Job.{lengths, answer, output_after, scratch_after}
 use Rattle.placement.specs.declared.Placements.{Placements}
 use Rattle.showing.specs.Outcome.{outcome_of}

@@ -11,7 +11,7 @@ use Rattle.ticket.specs.Boxes.{box_at, boxes_from, boxes_in}
 use Rattle.ticket.specs.Judging.{judge_head, judge_size, judge_field, operation_known, line_known, is_periodic, length_allowed}
 use Rattle.ticket.specs.Judging.{origin_allowed, judge_operation, judge_line, judge_vector, judge_length, judge_origin}
 use Rattle.ticket.specs.Judging.{judge_phase, judge_box, judge_boxes, judged}
-use Rattle.ticket.specs.Reading.{blank, box_places, shown, reading}
+use Rattle.ticket.specs.Reading.{operation_of, kind_of, box_places, shown}
 use Rattle.placement.specs.Placement.{side_allowed, scratch_needed}
 use Rattle.boxes.specs.Boxes.{covers, hidden, boxes_of}
 use Rattle.sotrugla.specs.Hiding.{hidden_by}
@@ -27,5 +27,5 @@ scratches = refl
 -- refused, and hides nothing
 hides : (hidden_by opening 6 3 ∷ hidden_by opening 261 3 ∷ hidden_by opening 5 3 ∷ hidden_by opening 262 3 ∷ hidden_by opening 6 2 ∷ hidden_by opening 6 4 ∷ hidden_by opening 3 6 ∷ hidden_by (opening ++ (7 ∷ [])) 6 3 ∷ [])
     ≡ (1 ∷ 1 ∷ 0 ∷ 0 ∷ 0 ∷ 0 ∷ 0 ∷ 0 ∷ [])
-unfolding shallow steep byte_at number_at signed16 signed_at operation_in line_in dx_in dy_in length_in origin_in phase_in field_end box_at boxes_from boxes_in unless ◌then◌ judge_head judge_size judge_field operation_known line_known is_periodic divided coprime vector_allowed length_allowed origin_allowed phase_allowed judge_operation judge_line judge_vector judge_length judge_origin judge_phase judge_box judge_boxes judged blank box_places shown when_done reading covers hidden boxes_of
+unfolding shallow steep byte_at number_at signed16 signed_at operation_in line_in dx_in dy_in length_in origin_in phase_in field_end box_at boxes_from boxes_in unless ◌then◌ judge_head judge_size judge_field operation_known line_known is_periodic divided coprime vector_allowed length_allowed origin_allowed phase_allowed judge_operation judge_line judge_vector judge_length judge_origin judge_phase judge_box judge_boxes judged operation_of kind_of box_places shown when_done covers hidden boxes_of
 hides = refl

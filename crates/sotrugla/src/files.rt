@@ -5,9 +5,10 @@ ghost use Rattle.file.specs.Reading.{reading_alone};
 ghost use Rattle.file.specs.FileJob.{delivery, file_output_after, file_scratch_after};
 ghost use Rattle.sotrugla.specs.Files.{pgm_read_of, pgm_run_of};
 
-use file::Delivery;
-use pgm::Reading;
-use refusal::report;
+use file::Finished;
+use pgm::Header;
+use refusal::Refused;
+use refusal::report::refusal_number;
 
 // What is told of a file: refusal is 0 for one that is read, and the other numbers are zero at a refusal.
 #[repr(C)]
@@ -31,30 +32,45 @@ pub struct PgmRun {
     pub length: u64,
 }
 
-fn pgm_read_of(r: Reading) -> PgmRead
-    ensures { result ≡ pgm_read_of r }
+fn pgm_read_of(read: Result<Header, Refused>) -> PgmRead
+    ensures { result ≡ pgm_read_of read }
 {
-    let answer = r.answer;
-    let header = r.header;
-    PgmRead {
-        refusal: report::number(answer) as u64,
-        place: report::place(answer) as u64,
-        width: header.width as u64,
-        height: header.height as u64,
-        maximum: header.maximum as u64,
-        start: header.start as u64,
+    match read {
+        Ok(header) => PgmRead {
+            refusal: 0,
+            place: 0,
+            width: header.width as u64,
+            height: header.height as u64,
+            maximum: header.maximum as u64,
+            start: header.start as u64,
+        },
+        Err(refused) => PgmRead {
+            refusal: refusal_number(refused.refusal) as u64,
+            place: refused.at as u64,
+            width: 0,
+            height: 0,
+            maximum: 0,
+            start: 0,
+        },
     }
 }
 
-fn pgm_run_of(d: Delivery) -> PgmRun
-    ensures { result ≡ pgm_run_of d }
+fn pgm_run_of(run: Result<Finished, Refused>) -> PgmRun
+    ensures { result ≡ pgm_run_of run }
 {
-    let answer = d.answer;
-    PgmRun {
-        refusal: report::number(answer) as u64,
-        place: report::place(answer) as u64,
-        work: report::work(answer),
-        length: d.length as u64,
+    match run {
+        Ok(finished) => PgmRun {
+            refusal: 0,
+            place: 0,
+            work: finished.work,
+            length: finished.length as u64,
+        },
+        Err(refused) => PgmRun {
+            refusal: refusal_number(refused.refusal) as u64,
+            place: refused.at as u64,
+            work: 0,
+            length: 0,
+        },
     }
 }
 

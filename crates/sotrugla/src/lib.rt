@@ -16,7 +16,7 @@ ghost use Rattle.sotrugla.specs.Hiding.{hidden_by};
 ghost use Rattle.sotrugla.specs.Version.{version};
 
 use placement::{Placements, Spot};
-use refusal::{Answer, Later, Refusal};
+use refusal::{Later, Refusal, Refused};
 use showing::{Outcome, outcome_of, shown};
 
 fn placements(
@@ -29,19 +29,17 @@ fn placements(
 ) -> Placements
     ensures { result ≡ placements_of width height source_offset source_stride output_offset output_stride }
 {
-    let source = Spot {
-        offset: source_offset,
-        stride: source_stride,
-    };
-    let output = Spot {
-        offset: output_offset,
-        stride: output_stride,
-    };
     Placements {
-        width: width,
-        height: height,
-        source: source,
-        output: output,
+        width,
+        height,
+        source: Spot {
+            offset: source_offset,
+            stride: source_stride,
+        },
+        output: Spot {
+            offset: output_offset,
+            stride: output_stride,
+        },
     }
 }
 
@@ -107,12 +105,21 @@ pub extern "C" fn sotrugla_read_ticket(ticket: &[u8], numbers: &mut [u64]) -> Ou
     ensures written { numbers.new ≡ numbers_after ticket.now numbers.old }
 {
     if numbers.len() < shown::NUMBERS {
-        return outcome_of(Answer::Refused(Refusal::Later(Later::NumbersTooFew), shown::NUMBERS));
+        return outcome_of(Err(Refused {
+            refusal: Refusal::Later(Later::NumbersTooFew),
+            at: shown::NUMBERS,
+        }));
     }
-    let reading = ticket::read(ticket);
-    let answer = reading.answer;
-    shown::put_ticket(reading.ticket, numbers);
-    outcome_of(answer)
+    match ticket::read(ticket) {
+        Ok(read) => {
+            shown::put_ticket(read, numbers);
+            outcome_of(Ok(0))
+        }
+        Err(refused) => {
+            shown::put_zeros(numbers);
+            outcome_of(Err(refused))
+        }
+    }
 }
 
 // Whether a box of the ticket hides the pixel at column, row: 1 or 0. A refused ticket is shown without boxes and
@@ -122,9 +129,16 @@ pub extern "C" fn sotrugla_read_ticket(ticket: &[u8], numbers: &mut [u64]) -> Ou
 pub extern "C" fn sotrugla_is_hidden(ticket: &[u8], column: usize, row: usize) -> u64
     ensures { result ≡ hidden_by ticket.now column row }
 {
-    let reading = ticket::read(ticket);
-    let hidden = boxes::hides(reading.ticket, column, row);
-    if hidden { 1 } else { 0 }
+    match ticket::read(ticket) {
+        Ok(read) => {
+            if boxes::hides(read, column, row) {
+                1
+            } else {
+                0
+            }
+        }
+        Err(_) => 0,
+    }
 }
 
 // 0.6.0: a million for the major number, a thousand for the minor one, one for the patch.

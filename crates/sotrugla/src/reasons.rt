@@ -6,8 +6,9 @@ ghost use Rattle.sotrugla.specs.Reasons.{why_of};
 
 use super::placements;
 use nearby::Pixel;
-use refusal::report;
-use why::{Told, ask};
+use refusal::Refused;
+use refusal::report::refusal_number;
+use why::{Reason, ask};
 
 // What is told of a pixel: refusal is 0 where a reason is named, and every number that is not meant is zero. `number`
 // is the number of a box.
@@ -25,16 +26,33 @@ pub struct Why {
     pub from_row: u64,
 }
 
-fn why_of(t: Told) -> Why
-    ensures { result ≡ why_of t }
+fn why_of(told: Result<Reason, Refused>) -> Why
+    ensures { result ≡ why_of told }
 {
-    let answer = t.answer;
-    let reason = t.reason;
+    match told {
+        Ok(reason) => named(reason),
+        Err(refused) => Why {
+            refusal: refusal_number(refused.refusal) as u64,
+            place: refused.at as u64,
+            kind: 0,
+            number: 0,
+            phase: 0,
+            through_column: 0,
+            through_row: 0,
+            from_column: 0,
+            from_row: 0,
+        },
+    }
+}
+
+fn named(reason: Reason) -> Why
+    ensures { result ≡ why_of (Ok reason) }
+{
     let through = reason.through;
     let from = reason.from;
     Why {
-        refusal: report::number(answer) as u64,
-        place: report::place(answer) as u64,
+        refusal: 0,
+        place: 0,
         kind: reason.kind as u64,
         number: reason.number as u64,
         phase: reason.phase as u64,
@@ -74,9 +92,6 @@ pub extern "C" fn sotrugla_why(
         output_offset,
         output_stride,
     );
-    let at = Pixel {
-        column: column,
-        row: row,
-    };
+    let at = Pixel { column, row };
     why_of(ask::why(ticket, places, source, output_length, scratch_length, at))
 }

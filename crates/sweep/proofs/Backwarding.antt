@@ -23,21 +23,23 @@ use Rattle.sweep.proofs.Places.{from_entry, spot_ahead, row_end, far_fits, far_o
 use Rattle.runs.proofs.Walking.{entry_own}
 use Rattle.sweep.proofs.Parts.{Free, Charged, own_part, walked_part}
 
-module _ (g : Grid) (profile reaches : List ℕ) (R t : ℕ) (at : Row g profile reaches R t) (old : List ℕ) (hi : ℕ) (far : FarEdge g R t 1 hi) where
+module _ {g : Grid} {profile reaches : List ℕ} {R t : ℕ} (at : Row g profile reaches R t) (old : List ℕ) (hi : ℕ)
+    (far : FarEdge g R t 1 hi) where
   -- at a block's or a line's last step the value stays
-  last_value : (y : ℕ) → y < g.width → (suc (number g R y) % g.length ≡ 0) ⊎ (suc (number g R y) ≡ line_steps g R y) → Free Backward g R old (get_or old (size g + (R * g.width + y)) 0) y
+  last_value : (y : ℕ) → y < g.width → (suc (number g R y) % g.length ≡ 0) ⊎ (suc (number g R y) ≡ line_steps g R y)
+      → Free Backward g R old (get_or old (size g + (R * g.width + y)) 0) y
   unfolding Ready new_at cost_at
   last_value y column ends =
       let here = pixel g profile reaches R t at y column in (
-        λ f ready. ready.0 ∙ back_last g profile reaches R t y here f ends,
-        back_last_cost g profile reaches R t y here ends,
+        λ f ready. ready.0 ∙ back_last here f ends,
+        back_last_cost here ends,
       )
 
   module _ (some : 0 < hi) (p : Plan) (plan : BackwardPlan g R t hi p) where
     pub backward_planned : Planned g R p
     backward_planned =
-        let fits = row_end g profile reaches R t at in
-        let next = far_fits g profile reaches R t at 1 hi far some in
+        let fits = row_end at in
+        let next = far_fits at 1 hi far some in
         let most = far.most in
         record {
           ordered = omega (arith, plan.lo_is);
@@ -46,13 +48,13 @@ module _ (g : Grid) (profile reaches : List ℕ) (R t : ℕ) (at : Row g profile
           first_fits = omega (arith, plan.lo_is, plan.hi_is, plan.first_is);
           second_fits = omega (arith, plan.lo_is, plan.hi_is, plan.second_is);
           first_apart = inl (omega (arith, plan.to_is, plan.first_is));
-          second_apart = inl (omega (arith, plan.to_is, plan.second_is, far_on g profile reaches R t at 1));
+          second_apart = inl (omega (arith, plan.to_is, plan.second_is, far_on at 1));
           entered = λ y l h. omega (arith, plan.top_is, entry_own g profile reaches R t at y (omega (arith, plan.hi_is)));
         }
 
     in_number : (y : ℕ) → y < g.width → in_block g R p y ≡ suc (number g R y) % g.length
     unfolding in_block
-    in_number y column = ap (λ (q : ℕ). q % g.length) (omega (arith, plan.top_is, from_entry g profile reaches R t at y column))
+    in_number y column = ap (λ (q : ℕ). q % g.length) (omega (arith, plan.top_is, from_entry at y column))
 
     module _ (y : ℕ) (inside : y < hi) where
       column : y < g.width
@@ -73,18 +75,21 @@ module _ (g : Grid) (profile reaches : List ℕ) (R t : ℕ) (at : Row g profile
           let going : 0 < suc (number g R y) % g.length = omega (arith, in_number y column) in
           let there = far.left y inside in
           let place : p.second + (y - p.lo) ≡ size g + spot g (start_row g R) (line_name g R y) (t + 1) =
-          let sum : p.second + (y - p.lo) ≡ size g + (place_on g R t 1 + y) = omega (arith, plan.second_is, plan.lo_is) in
-          sum ∙ ap (λ (q : ℕ). size g + q) (spot_ahead g profile reaches R t at y column 1 there) in (
+          let sum : p.second + (y - p.lo) ≡ size g + (place_on g R t 1 + y) =
+          omega (arith, plan.second_is, plan.lo_is) in
+          sum ∙ ap (λ (q : ℕ). size g + q) (spot_ahead at y column 1 there) in (
             λ f ready.
                 ap₂ (chosen g.low)
                 (ap (λ (i : ℕ). get_or old i 0) (own_place p.first plan.first_is) ∙ ready.0)
                 (ap (λ (i : ℕ). get_or old i 0) place
-                ∙ read_B g profile reaches R t y here old _ (suc R) g.height (t + 1) there (row_later g profile reaches R t y here (t + 1) (omega arith)) (row_fits g at.sized _ _ _ (small g profile reaches R t y here) there) ready.1)
-                ∙ back_next g profile reaches R t y here going there f,
-            back_next_cost g profile reaches R t y here going there,
+                ∙ read_B here old _ (suc R) g.height (t + 1) there (row_later here (t + 1) (omega arith))
+                (row_fits g at.sized _ _ _ (small here) there) ready.1)
+                ∙ back_next here going there f,
+            back_next_cost here going there,
           )
 
-    pub backward_made : (new : List ℕ) (count : ℕ) → Walked g R p p.hi old new count → PartDone Backward g R 0 hi old new count
+    pub backward_made : (new : List ℕ) (count : ℕ) → Walked g R p p.hi old new count
+        → PartDone Backward g R 0 hi old new count
     unfolding target
     backward_made new count walked =
         subst (λ (lo : ℕ). PartDone Backward g R lo hi old new count) plan.lo_is
@@ -98,4 +103,4 @@ module _ (g : Grid) (profile reaches : List ℕ) (R t : ℕ) (at : Row g profile
   backward_last =
       own_part Backward g R old hi g.width far.most (λ y l h.
       subst (λ (i : ℕ). Free Backward g R old (get_or old i 0) y) (sym (add_assoc (size g) (R * g.width) y))
-      (last_value y h (inr (no_next g profile reaches R t y (pixel g profile reaches R t at y h) (far.right y l h)))))
+      (last_value y h (inr (no_next (pixel g profile reaches R t at y h) (far.right y l h)))))

@@ -23,14 +23,15 @@ use Rattle.sweep.proofs.Places.{from_entry, spot_behind, row_end}
 use Rattle.runs.proofs.Walking.{entry_own}
 use Rattle.sweep.proofs.Parts.{Free, Charged, own_part, walked_part}
 
-module _ (g : Grid) (profile reaches : List ℕ) (R t : ℕ) (at : Row g profile reaches R t) (old : List ℕ) where
+module _ {g : Grid} {profile reaches : List ℕ} {R t : ℕ} (at : Row g profile reaches R t) (old : List ℕ) where
   -- at a block's first step the value stays
-  kept_value : (y : ℕ) → y < g.width → number g R y % g.length ≡ 0 → Free Forward g R old (get_or old (R * g.width + y) 0) y
+  kept_value : (y : ℕ) → y < g.width → number g R y % g.length ≡ 0
+      → Free Forward g R old (get_or old (R * g.width + y) 0) y
   unfolding Ready new_at cost_at
   kept_value y column e =
       let here = pixel g profile reaches R t at y column in (
-        λ f ready. ready.0 ∙ ahead_first g profile reaches R t y here f e,
-        ahead_first_cost g profile reaches R t y here e,
+        λ f ready. ready.0 ∙ ahead_first here f e,
+        ahead_first_cost here e,
       )
 
   -- columns whose lines have only just entered
@@ -50,7 +51,7 @@ module _ (g : Grid) (profile reaches : List ℕ) (R t : ℕ) (at : Row g profile
 
     pub forward_planned : Planned g R p
     forward_planned =
-        let fits = row_end g profile reaches R t at in
+        let fits = row_end at in
         let lo-most = plan.lo_is.most in
         record {
           ordered = omega (arith, plan.hi_is);
@@ -65,7 +66,7 @@ module _ (g : Grid) (profile reaches : List ℕ) (R t : ℕ) (at : Row g profile
 
     in_number : (y : ℕ) → y < g.width → in_block g R p y ≡ number g R y % g.length
     unfolding in_block
-    in_number y column = ap (λ (q : ℕ). q % g.length) (omega (arith, plan.top_is, from_entry g profile reaches R t at y column))
+    in_number y column = ap (λ (q : ℕ). q % g.length) (omega (arith, plan.top_is, from_entry at y column))
 
     module _ (y : ℕ) (inside : p.lo ≤ y) (column : y < g.width) where
       own_place : (place : ℕ) → place ≡ R * g.width + p.lo → place + (y - p.lo) ≡ R * g.width + y
@@ -81,28 +82,32 @@ module _ (g : Grid) (profile reaches : List ℕ) (R t : ℕ) (at : Row g profile
       run some =
           let here = pixel g profile reaches R t at y column in
           let going : 0 < number g R y % g.length = omega (arith, in_number y column) in
-          let there = before g profile reaches R t y here going in
+          let there = before here going in
           let lost = plan.lo_is.exact (omega arith) in
           let one : 1 * g.period ≡ g.period = one-mul g.period in
           let place : p.second + (y - p.lo) ≡ spot g (start_row g R) (line_name g R y) (t - 1) =
-          ap (λ (q : ℕ). q + (y - p.lo)) (plan.second_is ∙ ap (λ (q : ℕ). (R - q) * g.width) (sym one)) ∙ spot_behind g profile reaches R t at y column 1 p.lo later lost inside there in (
+          ap (λ (q : ℕ). q + (y - p.lo)) (plan.second_is ∙ ap (λ (q : ℕ). (R - q) * g.width) (sym one))
+          ∙ spot_behind at y column 1 p.lo later lost inside there in (
             λ f ready.
                 ap₂ (chosen g.low)
                 (ap (λ (i : ℕ). get_or old i 0) (own_place p.first plan.first_is) ∙ ready.0)
-                (ap (λ (i : ℕ). get_or old i 0) place ∙ read_A g profile reaches R t y here old _ (R - g.period) R (t - 1) there (row_before g profile reaches R t y here) (row_earlier g profile reaches R t y here (t - 1) (omega arith)) ready.1)
+                (ap (λ (i : ℕ). get_or old i 0) place ∙ read_A here old _ (R - g.period) R (t - 1) there (row_before here) (row_earlier here (t - 1) (omega arith)) ready.1)
                 ∙ chosen_comm g.low (f R y) _
-                ∙ ahead_next g profile reaches R t y here going f,
-            ahead_next_cost g profile reaches R t y here going,
+                ∙ ahead_next here going f,
+            ahead_next_cost here going,
           )
 
-    pub forward_swept : (new : List ℕ) (count : ℕ) → Walked g R p p.hi old new count → RowSwept Forward g R old new count
+    pub forward_swept : (new : List ℕ) (count : ℕ) → Walked g R p p.hi old new count
+        → RowSwept Forward g R old new count
     unfolding target
     forward_swept new count walked =
         let rest : PartDone Forward g R p.lo p.hi old new count =
-        walked_part Forward g R old p new count forward_planned.ordered (plan.to_is ∙ ap (λ (q : ℕ). q + p.lo) (sym (zero-add (R * g.width)))) walked
+        walked_part Forward g R old p new count forward_planned.ordered
+        (plan.to_is ∙ ap (λ (q : ℕ). q + p.lo) (sym (zero-add (R * g.width)))) walked
         (λ y l h e. lane y l (omega (arith, plan.hi_is)) e) (λ y l h e. run y l (omega (arith, plan.hi_is)) e) in
         let first : PartDone Forward g R 0 p.lo old old 0 =
-        entering p.lo plan.lo_is.most (λ y h. let late = plan.lo_is.left y h in omega (arith, from_entry g profile reaches R t at y (omega (arith, plan.lo_is.most)))) in
+        entering p.lo plan.lo_is.most
+        (λ y h. let late = plan.lo_is.left y h in omega (arith, from_entry at y (omega (arith, plan.lo_is.most)))) in
         subst (λ (hi : ℕ). PartDone Forward g R 0 hi old new count) plan.hi_is
         (subst (PartDone Forward g R 0 p.hi old new) (zero-add count)
-        (part_join Forward g R 0 p.lo p.hi old old new 0 count at.row forward_planned.columns zero-le forward_planned.ordered first rest))
+        (part_join at.row forward_planned.columns zero-le forward_planned.ordered first rest))

@@ -12,10 +12,10 @@ use Rattle.runs.specs.Scratch.{size}
 use Rattle.runs.specs.declared.Grid.{Grid}
 use Rattle.sweep.proofs.Making.{small}
 
-module _ (g : Grid) (profile reaches : List ℕ) (R t x : ℕ) (at : Pixel g profile reaches R t x) where
+module _ {g : Grid} {profile reaches : List ℕ} {R t x : ℕ} (at : Pixel g profile reaches R t x) where
   module _ (s place : ℕ) (found : place ≡ spot g (start_row g R) (line_name g R x) s) where
     pub found_below : StepOnPage g (start_row g R) (line_name g R x) s → place < size g
-    found_below there = omega (arith, found, spot_below g at.sized (start_row g R) (line_name g R x) s (small g profile reaches R t x at) there)
+    found_below there = omega (arith, found, spot_below g at.sized (start_row g R) (line_name g R x) s (small at) there)
 
     module _ (none : Bool) (told : none ≡ eqb place (size g)) where
       pub found_off : none ≡ true → StepOnPage g (start_row g R) (line_name g R x) s → ⊥

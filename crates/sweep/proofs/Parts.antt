@@ -31,13 +31,16 @@ module _ (sweep : Sweep) (g : Grid) (R : ℕ) (old : List ℕ) where
   abbrev base : ℕ
   base = target sweep g + R * g.width
 
-  nothing : (lo hi : ℕ) → lo ≤ hi → ((y : ℕ) → lo ≤ y → y < hi → 0 ≡ cost_at sweep g R y) → 0 ≡ total (cost_at sweep g R) lo (hi - lo)
+  nothing : (lo hi : ℕ) → lo ≤ hi → ((y : ℕ) → lo ≤ y → y < hi → 0 ≡ cost_at sweep g R y)
+      → 0 ≡ total (cost_at sweep g R) lo (hi - lo)
   nothing lo hi h each =
-      let all : total (cost_at sweep g R) lo (hi - lo) ≡ (hi - lo) * 0 = total_same (cost_at sweep g R) 0 lo (hi - lo) (λ y l k. sym (each y l (omega arith))) in
+      let all : total (cost_at sweep g R) lo (hi - lo) ≡ (hi - lo) * 0 =
+      total_same (cost_at sweep g R) 0 lo (hi - lo) (λ y l k. sym (each y l (omega arith))) in
       omega (arith, mul-zero (hi - lo))
 
   -- columns that keep their values
-  pub own_part : (lo hi : ℕ) → lo ≤ hi → ((y : ℕ) → lo ≤ y → y < hi → Free (get_or old (base + y) 0) y) → PartDone sweep g R lo hi old old 0
+  pub own_part : (lo hi : ℕ) → lo ≤ hi → ((y : ℕ) → lo ≤ y → y < hi → Free (get_or old (base + y) 0) y)
+      → PartDone sweep g R lo hi old old 0
   own_part lo hi h each =
       record {
         kept = record { same_length = refl; below = λ k l. refl; above = λ k l. refl };
@@ -63,7 +66,8 @@ module _ (sweep : Sweep) (g : Grid) (R : ℕ) (old : List ℕ) where
       }
 
   -- columns that are all chosen
-  pub chosen_part : (lo hi to first second : ℕ) (new : List ℕ) → lo ≤ hi → to ≡ base + lo → Chosen g.low to first second (hi - lo) old new
+  pub chosen_part : (lo hi to first second : ℕ) (new : List ℕ) → lo ≤ hi → to ≡ base + lo
+      → Chosen g.low to first second (hi - lo) old new
       → ((y : ℕ) → lo ≤ y → y < hi → Charged (chosen g.low (get_or old (first + (y - lo)) 0) (get_or old (second + (y - lo)) 0)) y) → PartDone sweep g R lo hi old new (hi - lo)
   chosen_part lo hi to first second new h is made each =
       record {
@@ -81,7 +85,8 @@ module _ (sweep : Sweep) (g : Grid) (R : ℕ) (old : List ℕ) where
     where
       all : hi - lo ≡ total (cost_at sweep g R) lo (hi - lo)
       all =
-          let same : total (cost_at sweep g R) lo (hi - lo) ≡ (hi - lo) * 1 = total_same (cost_at sweep g R) 1 lo (hi - lo) (λ y l k. sym (each y l (omega arith)).1) in
+          let same : total (cost_at sweep g R) lo (hi - lo) ≡ (hi - lo) * 1 =
+          total_same (cost_at sweep g R) 1 lo (hi - lo) (λ y l k. sym (each y l (omega arith)).1) in
           omega (arith, mul-one (hi - lo))
 
   -- columns that are kept or chosen, each as it is told
@@ -91,7 +96,8 @@ module _ (sweep : Sweep) (g : Grid) (R : ℕ) (old : List ℕ) where
         ((keeps (y - lo) ≡ true) × Free (get_or old (first + (y - lo)) 0) y)
         ⊎ ((keeps (y - lo) ≡ false) × Charged (chosen g.low (get_or old (first + (y - lo)) 0) (get_or old (second + (y - lo)) 0)) y)
 
-    pub unless_part : (count : ℕ) → lo ≤ hi → to ≡ base + lo → ChosenUnless g.low keeps to first second (hi - lo) old new → count ≡ total (compared_of keeps) 0 (hi - lo)
+    pub unless_part : (count : ℕ) → lo ≤ hi → to ≡ base + lo
+        → ChosenUnless g.low keeps to first second (hi - lo) old new → count ≡ total (compared_of keeps) 0 (hi - lo)
         → ((y : ℕ) → lo ≤ y → y < hi → Told y) → PartDone sweep g R lo hi old new count
     unfolding kept_or
     unless_part count h is made so-many each =
@@ -125,7 +131,8 @@ module _ (sweep : Sweep) (g : Grid) (R : ℕ) (old : List ℕ) where
             (each (lo + k) (omega arith) (omega arith))
 
   -- columns that a plan makes
-  pub walked_part : (p : Plan) (new : List ℕ) (count : ℕ) → p.lo ≤ p.hi → p.to ≡ base + p.lo → Walked g R p p.hi old new count
+  pub walked_part : (p : Plan) (new : List ℕ) (count : ℕ) → p.lo ≤ p.hi → p.to ≡ base + p.lo
+      → Walked g R p p.hi old new count
       → ((y : ℕ) → p.lo ≤ y → y < p.hi → in_block g R p y ≡ 0 → Free (get_or old (p.first + (y - p.lo)) 0) y)
       → ((y : ℕ) → p.lo ≤ y → y < p.hi → 0 < in_block g R p y → Charged (chosen g.low (get_or old (p.first + (y - p.lo)) 0) (get_or old (p.second + (y - p.lo)) 0)) y)
       → PartDone sweep g R p.lo p.hi old new count
@@ -143,7 +150,8 @@ module _ (sweep : Sweep) (g : Grid) (R : ℕ) (old : List ℕ) where
             ∙ by_cases (dec_lt 0 (in_block g R p y))
             (λ some. walked.goes_on y l k some ∙ (runs y l k some).0 f (ready y l k))
             (λ none. walked.begins y l k (omega arith) ∙ (lanes y l k (omega arith)).0 f (ready y l k));
-        counted = walked.counted ∙ total_alike _ (cost_at sweep g R) p.lo (p.hi - p.lo) (λ y l k. cost y l (omega arith));
+        counted =
+            walked.counted ∙ total_alike _ (cost_at sweep g R) p.lo (p.hi - p.lo) (λ y l k. cost y l (omega arith));
       }
     where
       cost : (y : ℕ) → p.lo ≤ y → y < p.hi → cond (eqb (in_block g R p y) 0) 0 1 ≡ cost_at sweep g R y

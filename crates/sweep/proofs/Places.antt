@@ -14,7 +14,7 @@ use Rattle.runs.specs.declared.Grid.{Grid}
 use Rattle.sweep.proofs.Making as making
 use Rattle.runs.proofs.Planning.{pixel, here, name, row_on, on}
 
-module _ (g : Grid) (profile reaches : List ℕ) (R t : ℕ) (at : Row g profile reaches R t) where
+module _ {g : Grid} {profile reaches : List ℕ} {R t : ℕ} (at : Row g profile reaches R t) where
   -- a row, and the rows up to it
   pub row_end : R * g.width + g.width ≤ size g
   row_end =
@@ -25,13 +25,14 @@ module _ (g : Grid) (profile reaches : List ℕ) (R t : ℕ) (at : Row g profile
     -- a pixel's number, counted from its entry
     pub from_entry : entry_at g R y + number g R y ≡ t
     unfolding entry_at
-    from_entry = making.numbered g profile reaches R t y (pixel g profile reaches R t at y column)
+    from_entry = making.numbered (pixel g profile reaches R t at y column)
 
     small : start_row g R < period g.line
-    small = making.small g profile reaches R t y (pixel g profile reaches R t at y column)
+    small = making.small (pixel g profile reaches R t at y column)
 
     -- b steps on
-    pub spot_ahead : (b : ℕ) → StepOnPage g (start_row g R) (line_name g R y) (t + b) → place_on g R t b + y ≡ spot g (start_row g R) (line_name g R y) (t + b)
+    pub spot_ahead : (b : ℕ) → StepOnPage g (start_row g R) (line_name g R y) (t + b)
+        → place_on g R t b + y ≡ spot g (start_row g R) (line_name g R y) (t + b)
     unfolding place_on row_at column_at
     spot_ahead b there =
         ap (λ (q : ℕ). q * g.width + (drift g.line (t + b) - drift g.line t) + y) rows
@@ -41,17 +42,21 @@ module _ (g : Grid) (profile reaches : List ℕ) (R t : ℕ) (at : Row g profile
         rows : R + b * g.period ≡ row_at g (start_row g R) (t + b)
         rows = sym (row_on g profile reaches R t at b)
 
-        shifted : row_at g (start_row g R) (t + b) * g.width + (drift g.line (t + b) - drift g.line t) + y ≡ row_at g (start_row g R) (t + b) * g.width + column_at g (line_name g R y) (t + b)
+        shifted : row_at g (start_row g R) (t + b) * g.width + (drift g.line (t + b) - drift g.line t) + y
+            ≡ row_at g (start_row g R) (t + b) * g.width + column_at g (line_name g R y) (t + b)
         shifted =
-            let rises = (on g profile reaches R t at b (omega (arith, there.row, row_on g profile reaches R t at b))).rises in
+            let rises =
+            (on g profile reaches R t at b (omega (arith, there.row, row_on g profile reaches R t at b))).rises in
             omega (arith, name g profile reaches R t at y column)
 
     -- a steps back, where lo columns are lost on the way
-    pub spot_behind : (a lo : ℕ) → a ≤ t → lo + drift g.line (t - a) ≡ drift g.line t → lo ≤ y → StepOnPage g (start_row g R) (line_name g R y) (t - a)
+    pub spot_behind : (a lo : ℕ) → a ≤ t → lo + drift g.line (t - a) ≡ drift g.line t → lo ≤ y
+        → StepOnPage g (start_row g R) (line_name g R y) (t - a)
         → (R - a * g.period) * g.width + (y - lo) ≡ spot g (start_row g R) (line_name g R y) (t - a)
     unfolding row_at column_at
     spot_behind a lo h lost inside there =
-        ap₂ (λ (q c : ℕ). q * g.width + c) rows columns ∙ sym (spot_on g at.sized (start_row g R) (line_name g R y) (t - a) small there)
+        ap₂ (λ (q c : ℕ). q * g.width + c) rows columns
+        ∙ sym (spot_on g at.sized (start_row g R) (line_name g R y) (t - a) small there)
       where
         rows : R - a * g.period ≡ row_at g (start_row g R) (t - a)
         rows =

@@ -1,5 +1,5 @@
 -- A row of a sweep: one more part of it, and that what a sweep reads is still there. Assumes nothing.
-use mathlib.Core.Path.{◌≡◌, refl, sym, ap, ◌∙◌}
+use mathlib.Core.Path.{◌≡◌, refl, sym, ap, subst, ◌∙◌}
 use mathlib.Core.Bool.{◌||◌}
 use mathlib.Core.List.{List}
 use mathlib.Core.Logic.{by_cases}
@@ -13,12 +13,12 @@ use lib.Seq.{get_or-set_same, get_or-set_other}
 use Rattle.runs.specs.Block.{rightward, leftward, resulting}
 use Rattle.runs.specs.Grid.{Page, number, line_steps, rightward_at, leftward_at, resulting_at}
 use Rattle.runs.specs.Scratch.{size, Kept, total}
-use Rattle.sweep.specs.Sweeps.{target, new_at, cost_at, RowsHold, Ready, PartDone}
+use Rattle.sweep.specs.Sweeps.{target, new_at, cost_at, RowsHold, Ready, PartDone, RowSwept}
 use Rattle.runs.specs.declared.Grid.{Grid}
 use Rattle.sweep.specs.declared.Sweep.{Sweep}
 use Rattle.sweep.specs.declared.Sweep.TheVariants.{Backward, Forward, Result}
 use Rattle.runs.proofs.Bounds.{place_below}
-use Rattle.runs.proofs.Totals.{total_more, total_join, cond_most}
+use Rattle.runs.proofs.Totals.{total_more, total_join, total_most, cond_most}
 
 -- ---- what a pixel costs
 
@@ -42,7 +42,8 @@ cost_most Result g R x = resulting_most g.length (line_steps g R x) g.back g.on 
 
 -- ---- what a sweep finds at a pixel is still there when it comes to it
 
-module _ (g : Grid) (R lo hi : ℕ) (old new : List ℕ) (n : ℕ) (rows : R < g.height) (columns : n < g.width) (reached : hi ≤ n) where
+module _ (g : Grid) (R lo hi : ℕ) (old new : List ℕ) (n : ℕ) (rows : R < g.height) (columns : n < g.width)
+    (reached : hi ≤ n) where
   -- rows below this one, and rows above it
   later : (R' x' : ℕ) → R < R' → R * g.width + n < R' * g.width + x'
   later R' x' h =
@@ -55,7 +56,9 @@ module _ (g : Grid) (R lo hi : ℕ) (old new : List ℕ) (n : ℕ) (rows : R < g
   inside : R * g.width + n < size g
   inside = place_below R n g.height g.width rows columns
 
-  pub still_ready : (sweep : Sweep) (f : Page) → Kept (target sweep g + R * g.width + lo) (target sweep g + R * g.width + hi) old new → Ready sweep g old f R n → Ready sweep g new f R n
+  pub still_ready : (sweep : Sweep) (f : Page)
+      → Kept (target sweep g + R * g.width + lo) (target sweep g + R * g.width + hi) old new → Ready sweep g old f R n
+      → Ready sweep g new f R n
   unfolding Ready target RowsHold
   still_ready Backward f kept (own, after) = (
     kept.above (size g + (R * g.width + n)) (omega arith) ∙ own,
@@ -73,20 +76,31 @@ module _ (g : Grid) (R lo hi : ℕ) (old new : List ℕ) (n : ℕ) (rows : R < g
 
 -- ---- one more part
 
-pub part_none : (sweep : Sweep) (g : Grid) (R n : ℕ) (old : List ℕ) → PartDone sweep g R n n old old 0
+pub part_none : {sweep : Sweep} {g : Grid} {R lo hi : ℕ} {old : List ℕ} → lo ≡ hi → PartDone sweep g R lo hi old old 0
 unfolding total
-part_none sweep g R n old =
+part_none {sweep} {g} {R} {lo} {hi} {old} e =
     record {
       kept = record { same_length = refl; below = λ k h. refl; above = λ k h. refl };
-      made = λ f ready x lo hi. absurd (omega arith);
+      made = λ f ready x from to. absurd (omega arith);
       counted = none;
     }
   where
-    none : 0 ≡ total (cost_at sweep g R) n (n - n)
-    none = let z : n - n ≡ 0 = omega arith in sym (ap (total (cost_at sweep g R) n) z)
+    none : 0 ≡ total (cost_at sweep g R) lo (hi - lo)
+    none = let z : hi - lo ≡ 0 = omega arith in sym (ap (total (cost_at sweep g R) lo) z)
 
-module _ (sweep : Sweep) (g : Grid) (R lo mid hi : ℕ) (old one two : List ℕ) (count more : ℕ) (rows : R < g.height) (columns : hi ≤ g.width) (first : lo ≤ mid) (second : mid ≤ hi) where
-  pub part_join : PartDone sweep g R lo mid old one count → PartDone sweep g R mid hi one two more → PartDone sweep g R lo hi old two (count + more)
+-- a part under other names of its columns and its cost
+pub part_as : {sweep : Sweep} {g : Grid} {R lo lo' hi hi' : ℕ} {old new : List ℕ} {count count' : ℕ} → lo ≡ lo'
+    → hi ≡ hi'
+    → count ≡ count' → PartDone sweep g R lo hi old new count → PartDone sweep g R lo' hi' old new count'
+part_as {sweep} {g} {R} {lo} {lo'} {hi} {hi'} {old} {new} {count} {count'} from to cost done =
+    subst (λ (n : ℕ). PartDone sweep g R n hi' old new count') from
+    (subst (λ (n : ℕ). PartDone sweep g R lo n old new count') to
+    (subst (PartDone sweep g R lo hi old new) cost done))
+
+module _ {sweep : Sweep} {g : Grid} {R lo mid hi : ℕ} {old one two : List ℕ} {count more : ℕ}
+    (rows : R < g.height) (columns : hi ≤ g.width) (first : lo ≤ mid) (second : mid ≤ hi) where
+  pub part_join : PartDone sweep g R lo mid old one count → PartDone sweep g R mid hi one two more
+      → PartDone sweep g R lo hi old two (count + more)
   part_join a b =
       let base : ℕ = target sweep g + R * g.width in
       record {
@@ -103,11 +117,25 @@ module _ (sweep : Sweep) (g : Grid) (R lo mid hi : ℕ) (old one two : List ℕ)
         counted = sum a b;
       }
     where
-      sum : PartDone sweep g R lo mid old one count → PartDone sweep g R mid hi one two more → count + more ≡ total (cost_at sweep g R) lo (hi - lo)
+      sum : PartDone sweep g R lo mid old one count → PartDone sweep g R mid hi one two more
+          → count + more ≡ total (cost_at sweep g R) lo (hi - lo)
       sum a b =
           let cut : hi - lo ≡ (mid - lo) + (hi - mid) = omega arith in
           let at : lo + (mid - lo) ≡ mid = omega arith in
           omega (arith, a.counted, b.counted, ap (total (cost_at sweep g R) lo) cut, total_join (cost_at sweep g R) lo (mid - lo) (hi - mid), ap (λ (i : ℕ). total (cost_at sweep g R) i (hi - mid)) at)
+
+-- a part costs at most a comparison for each of its columns
+pub part_few : {sweep : Sweep} {g : Grid} {R lo hi : ℕ} {old new : List ℕ} {count : ℕ}
+    → PartDone sweep g R lo hi old new count → count ≤ hi - lo
+part_few {sweep} {g} {R} {lo} {hi} done =
+    omega (arith, done.counted, total_most (cost_at sweep g R) (cost_most sweep g R) lo (hi - lo))
+
+-- a row under other names of it and of its page
+pub row_as : {sweep : Sweep} {g g' : Grid} {R R' : ℕ} {old new : List ℕ} {count : ℕ} → (g ≡ g') × (R ≡ R')
+    → RowSwept sweep g R old new count → RowSwept sweep g' R' old new count
+row_as {sweep} {g} {g'} {R} {R'} {old} {new} {count} e done =
+    subst (λ (q : Grid). RowSwept sweep q R' old new count) e.0
+    (subst (λ (r : ℕ). RowSwept sweep g r old new count) e.1 done)
 
 -- one pixel
 module _ (sweep : Sweep) (g : Grid) (R : ℕ) (old : List ℕ) (n v c : ℕ) where
@@ -125,7 +153,9 @@ module _ (sweep : Sweep) (g : Grid) (R : ℕ) (old : List ℕ) (n v c : ℕ) whe
             };
         made = λ f ready x lo hi.
             let e : x ≡ n = omega arith in
-            ap (λ (i : ℕ). get_or (set old place v) (target sweep g + R * g.width + i) 0) e ∙ ap (λ (i : ℕ). get_or (set old place v) i 0) (sym is) ∙ get_or-set_same old place v 0 fits ∙ value f (ready n (omega arith) (omega arith)) ∙ ap (new_at sweep g f R) (sym e);
+            ap (λ (i : ℕ). get_or (set old place v) (target sweep g + R * g.width + i) 0) e
+            ∙ ap (λ (i : ℕ). get_or (set old place v) i 0) (sym is) ∙ get_or-set_same old place v 0 fits
+            ∙ value f (ready n (omega arith) (omega arith)) ∙ ap (new_at sweep g f R) (sym e);
         counted = sum cost;
       }
     where

@@ -3,13 +3,15 @@
 // has at the window's first pixel where that is in the block of the line's last, which the line's mark says, else
 // the choice of it and what page A has at the last.
 ghost use Rattle.std.specs.Prelude.{◌≡◌, suc, ◌+◌, ◌*◌, ◌-◌, ◌≤◌, ◌<◌, length};
+ghost use Rattle.geometry.specs.Drift.{drift};
 ghost use Rattle.runs.specs.Grid.{Sized};
 ghost use Rattle.sweep.specs.Bottom.{AtBottom, Begun, WithinAt};
-ghost use Rattle.runs.specs.Runs.{Row, EdgeAt, Marked};
+ghost use Rattle.runs.specs.Runs.{EdgeAt};
 ghost use Rattle.runs.specs.Scratch.{size};
 ghost use Rattle.sweep.specs.Sweeps.{PartDone};
 
 use super::{Sweep, Within};
+use runs::tables::{MarkedRow, RowAt};
 use runs::{Grid, run, step, walk};
 
 // How many more steps the page has from a row on.
@@ -20,11 +22,11 @@ pub fn steps_left(g: Grid, row: usize) -> usize
     (g.height - 1 - row) / g.period
 }
 
-// How far one number is above another, or 0.
-fn above(a: usize, b: usize) -> usize
-    ensures { result ≡ a - b }
+// How far the lines of a row have drifted.
+pub fn drift_of(at: &RowAt) -> usize
+    ensures { result ≡ drift at.now.tables.grid.line at.now.step }
 {
-    if b < a { a - b } else { 0 }
+    step::entry_of(at.tables.profile, at.step)
 }
 
 // The marks of lines whose windows lie in one block. The last step is last - mark steps into its line's block, or a
@@ -36,8 +38,8 @@ fn within(g: Grid, step: usize, b: usize) -> Within
 {
     let last = (step + b) % g.length;
     let reach = g.back + b;
-    let near = above(last + 1, reach);
-    let far = above(last + 1 + g.length, reach);
+    let near = (last + 1).saturating_sub(reach);
+    let far = (last + 1 + g.length).saturating_sub(reach);
     Within {
         last: last as u16,
         near: near as u16,
@@ -47,60 +49,40 @@ fn within(g: Grid, step: usize, b: usize) -> Within
 
 // The columns up to lo, whose windows begin before the line: the line is shorter than a block, so its last pixel
 // has it whole.
-fn early_bottom(
-    g: Grid,
-    profile: &[usize],
-    reaches: &[usize],
-    bytes: &mut [u8],
-    row: usize,
-    step: usize,
-    b: usize,
-    lo: usize,
-    hi: usize,
-)
-    requires row { Row g profile.now reaches.now row step × (size g + size g ≤ length bytes.old) }
-    requires at_bottom { AtBottom g row step b 0 hi × EdgeAt g row step step g.back hi lo }
-    ensures { PartDone Sweep.Result g row 0 lo bytes.old bytes.new 0 }
+fn early_bottom(at: &RowAt, bytes: &mut [u8], b: usize, lo: usize, hi: usize)
+    requires room { let g = at.now.tables.grid in size g + size g ≤ length bytes.old }
+    requires at_bottom { let g = at.now.tables.grid in AtBottom g at.now.row at.now.step b 0 hi ×
+        EdgeAt g at.now.row at.now.step at.now.step g.back hi lo }
+    ensures { PartDone Sweep.Result at.now.tables.grid at.now.row 0 lo bytes.old bytes.new 0 }
 {
+    let g = at.tables.grid;
     if lo == 0 {
         return;
     }
-    let end = step::place_at(g, profile, reaches, row, step, step + b, 0);
-    run::copy_run(bytes, row * g.width, end, lo);
+    let end = step::place_at(at, at.step + b, 0);
+    run::copy_run(bytes, at.row * g.width, end, lo);
 }
 
 // At most 224 columns whose windows begin in the line.
-fn block_part(
-    g: Grid,
-    profile: &[usize],
-    reaches: &[usize],
-    marks: &[u16],
-    bytes: &mut [u8],
-    row: usize,
-    step: usize,
-    b: usize,
-    w: Within,
-    lo: usize,
-    hi: usize,
-) -> usize
-    requires row { Row g profile.now reaches.now row step × (size g + size g ≤ length bytes.old) × Marked g
-        marks.now }
-    requires at_bottom { AtBottom g row step b lo hi × Begun g row step lo hi × WithinAt g step b w × (lo < hi) ×
-        (hi ≤ lo + 224) }
-    ensures { PartDone Sweep.Result g row lo hi bytes.old bytes.new result }
+fn block_part(row: &MarkedRow, bytes: &mut [u8], b: usize, w: Within, lo: usize, hi: usize) -> usize
+    requires room { let g = row.now.at.tables.grid in size g + size g ≤ length bytes.old }
+    requires at_bottom { let g = row.now.at.tables.grid in AtBottom g row.now.at.row row.now.at.step b lo hi ×
+        Begun g row.now.at.row row.now.at.step lo hi × WithinAt g row.now.at.step b w × (lo < hi) × (hi ≤ lo + 224) }
+    ensures { PartDone Sweep.Result row.now.at.tables.grid row.now.at.row lo hi bytes.old bytes.new result }
 {
-    let start = step::place_at(g, profile, reaches, row, step, step - g.back, lo);
-    let end = step::place_at(g, profile, reaches, row, step, step + b, lo);
-    let place = lo + g.height - step::entry_of(profile, step);
+    let g = row.at.tables.grid;
+    let start = step::place_at(&row.at, row.at.step - g.back, lo);
+    let end = step::place_at(&row.at, row.at.step + b, lo);
+    let place = lo + g.height - drift_of(&row.at);
     run::block_run(
         g.low,
         bytes,
-        marks,
+        row.marks,
         place,
         w.last,
         w.near,
         w.far,
-        row * g.width + lo,
+        row.at.row * g.width + lo,
         g.height * g.width + start,
         end,
         hi - lo,
@@ -108,52 +90,30 @@ fn block_part(
 }
 
 // The columns from lo on, whose windows begin in the line.
-fn across_bottom(
-    g: Grid,
-    profile: &[usize],
-    reaches: &[usize],
-    marks: &[u16],
-    bytes: &mut [u8],
-    row: usize,
-    step: usize,
-    b: usize,
-    lo: usize,
-    hi: usize,
-) -> usize
-    requires row { Row g profile.now reaches.now row step × (size g + size g ≤ length bytes.old) × Marked g
-        marks.now }
-    requires at_bottom { AtBottom g row step b 0 hi × EdgeAt g row step step g.back hi lo }
-    ensures { PartDone Sweep.Result g row lo hi bytes.old bytes.new result }
+fn across_bottom(row: &MarkedRow, bytes: &mut [u8], b: usize, lo: usize, hi: usize) -> usize
+    requires room { let g = row.now.at.tables.grid in size g + size g ≤ length bytes.old }
+    requires at_bottom { let g = row.now.at.tables.grid in AtBottom g row.now.at.row row.now.at.step b 0 hi ×
+        EdgeAt g row.now.at.row row.now.at.step row.now.at.step g.back hi lo }
+    ensures { PartDone Sweep.Result row.now.at.tables.grid row.now.at.row lo hi bytes.old bytes.new result }
 {
-    let w = within(g, step, b);
+    let g = row.at.tables.grid;
+    let w = within(g, row.at.step, b);
     let mut count: usize = 0;
-    let mut x = lo;
-    while x < hi {
-        let end = walk::nearer(hi, x + 224);
-        count += block_part(g, profile, reaches, marks, bytes, row, step, b, w, x, end);
-        x = end;
+    for x in (lo..hi).step_by(224) {
+        let end = hi.min(x + 224);
+        count += block_part(row, bytes, b, w, x, end);
     }
     count
 }
 
 // The columns up to hi. It answers its comparisons.
-pub fn bottom_part(
-    g: Grid,
-    profile: &[usize],
-    reaches: &[usize],
-    marks: &[u16],
-    bytes: &mut [u8],
-    row: usize,
-    step: usize,
-    b: usize,
-    hi: usize,
-) -> usize
-    requires row { Row g profile.now reaches.now row step × (size g + size g ≤ length bytes.old) × Marked g
-        marks.now }
-    requires at_bottom { AtBottom g row step b 0 hi }
-    ensures { PartDone Sweep.Result g row 0 hi bytes.old bytes.new result }
+pub fn bottom_part(row: &MarkedRow, bytes: &mut [u8], b: usize, hi: usize) -> usize
+    requires room { let g = row.now.at.tables.grid in size g + size g ≤ length bytes.old }
+    requires at_bottom { AtBottom row.now.at.tables.grid row.now.at.row row.now.at.step b 0 hi }
+    ensures { PartDone Sweep.Result row.now.at.tables.grid row.now.at.row 0 hi bytes.old bytes.new result }
 {
-    let lo = walk::edge(g, profile, reaches, row, step, step, g.back, hi);
-    early_bottom(g, profile, reaches, bytes, row, step, b, lo, hi);
-    across_bottom(g, profile, reaches, marks, bytes, row, step, b, lo, hi)
+    let g = row.at.tables.grid;
+    let lo = walk::edge(&row.at, row.at.step, g.back, hi);
+    early_bottom(&row.at, bytes, b, lo, hi);
+    across_bottom(row, bytes, b, lo, hi)
 }

@@ -16,6 +16,7 @@ mod row;
 pub mod rows;
 
 // A value, and how many comparisons it cost.
+// Stays: an enum of `AsIs(u8)` and `Compared(u8)` would be matched for the value and again for the count.
 #[derive(Clone, Copy)]
 pub struct Made {
     pub value: u8,
@@ -31,8 +32,7 @@ pub struct Within {
     pub far: u16,
 }
 
-// The three sweeps of a pass.
-#[derive(Clone, Copy)]
+// The three sweeps of a pass, as the contracts name them: each is a function of `row`.
 pub enum Sweep {
     Backward,
     Forward,

@@ -1,140 +1,87 @@
 // One row of each sweep, in parts: what has nothing to be compared with, what is made by a plan, and what goes
 // pixel by pixel.
 ghost use Rattle.std.specs.Prelude.{◌≡◌, ◌+◌, ◌≤◌, ◌<◌, min, length};
-ghost use Rattle.runs.specs.Grid.{Sized, Tabled};
-ghost use Rattle.runs.specs.Runs.{Row, EdgeAt, FarEdge, Marked};
+ghost use Rattle.runs.specs.Runs.{EdgeAt, FarEdge};
 ghost use Rattle.runs.specs.Scratch.{size};
 ghost use Rattle.sweep.specs.Sweeps.{PartDone, RowSwept};
 
 use super::{Sweep, rest};
 use planning::plans;
-use runs::{Grid, run, walk};
+use runs::tables::{MarkedRow, RowAt};
+use runs::{run, walk};
 
 // The forward sweep: a page's first rows have nothing before them.
-pub fn forward_row(
-    g: Grid,
-    profile: &[usize],
-    reaches: &[usize],
-    marks: &[u16],
-    bytes: &mut [u8],
-    row: usize,
-    step: usize,
-) -> usize
-    requires { Row g profile.now reaches.now row step × (size g + size g ≤ length bytes.old) × Marked g
-        marks.now }
-    ensures { RowSwept Sweep.Forward g row bytes.old bytes.new result }
+pub fn forward_row(row: &MarkedRow, bytes: &mut [u8]) -> usize
+    requires { let g = row.now.at.tables.grid in size g + size g ≤ length bytes.old }
+    ensures { RowSwept Sweep.Forward row.now.at.tables.grid row.now.at.row bytes.old bytes.new result }
 {
-    if step == 0 {
+    if row.at.step == 0 {
         return 0;
     }
-    let p = plans::forward_plan(g, profile, reaches, row, step);
-    walk::walk(g, profile, reaches, marks, bytes, row, step, p)
+    let p = plans::forward_plan(&row.at);
+    walk::walk(row, bytes, p)
 }
 
 // The columns that have a next pixel.
-fn backward_part(
-    g: Grid,
-    profile: &[usize],
-    reaches: &[usize],
-    marks: &[u16],
-    bytes: &mut [u8],
-    row: usize,
-    step: usize,
-    hi: usize,
-) -> usize
-    requires row { Row g profile.now reaches.now row step × (size g + size g ≤ length bytes.old) × Marked g
-        marks.now }
-    requires far_edge { FarEdge g row step 1 hi }
-    ensures { PartDone Sweep.Backward g row 0 hi bytes.old bytes.new result }
+fn backward_part(row: &MarkedRow, bytes: &mut [u8], hi: usize) -> usize
+    requires room { let g = row.now.at.tables.grid in size g + size g ≤ length bytes.old }
+    requires far_edge { FarEdge row.now.at.tables.grid row.now.at.row row.now.at.step 1 hi }
+    ensures { PartDone Sweep.Backward row.now.at.tables.grid row.now.at.row 0 hi bytes.old bytes.new result }
 {
     if hi == 0 {
         return 0;
     }
-    let p = plans::backward_plan(g, profile, reaches, row, step, hi);
-    walk::walk(g, profile, reaches, marks, bytes, row, step, p)
+    let p = plans::backward_plan(&row.at, hi);
+    walk::walk(row, bytes, p)
 }
 
 // The columns that have none keep their values.
-pub fn backward_row(
-    g: Grid,
-    profile: &[usize],
-    reaches: &[usize],
-    marks: &[u16],
-    bytes: &mut [u8],
-    row: usize,
-    step: usize,
-) -> usize
-    requires { Row g profile.now reaches.now row step × (size g + size g ≤ length bytes.old) × Marked g
-        marks.now }
-    ensures { RowSwept Sweep.Backward g row bytes.old bytes.new result }
+pub fn backward_row(row: &MarkedRow, bytes: &mut [u8]) -> usize
+    requires { let g = row.now.at.tables.grid in size g + size g ≤ length bytes.old }
+    ensures { RowSwept Sweep.Backward row.now.at.tables.grid row.now.at.row bytes.old bytes.new result }
 {
-    let hi = plans::far_edge(g, profile, reaches, row, step, 1);
-    backward_part(g, profile, reaches, marks, bytes, row, step, hi)
+    let hi = plans::far_edge(&row.at, 1);
+    backward_part(row, bytes, hi)
 }
 
 // The windows that begin before the line and end in it: all in the line's first block.
-fn early_part(
-    g: Grid,
-    profile: &[usize],
-    reaches: &[usize],
-    bytes: &mut [u8],
-    row: usize,
-    step: usize,
-    lo: usize,
-    hi: usize,
-)
-    requires row { Row g profile.now reaches.now row step × (size g + size g ≤ length bytes.old) }
-    requires edge_at { EdgeAt g row step step g.back g.width lo × FarEdge g row step g.on hi }
-    ensures { PartDone Sweep.Result g row 0 (min lo hi) bytes.old bytes.new 0 }
+fn early_part(at: &RowAt, bytes: &mut [u8], lo: usize, hi: usize)
+    requires room { let g = at.now.tables.grid in size g + size g ≤ length bytes.old }
+    requires edge_at { let g = at.now.tables.grid in EdgeAt g at.now.row at.now.step at.now.step g.back g.width lo ×
+        FarEdge g at.now.row at.now.step g.on hi }
+    ensures { PartDone Sweep.Result at.now.tables.grid at.now.row 0 (min lo hi) bytes.old bytes.new 0 }
 {
+    let g = at.tables.grid;
     if hi == 0 {
         return;
     }
-    let end = plans::place_on(g, profile, reaches, row, step, g.on);
-    run::copy_run(bytes, row * g.width, end, walk::nearer(lo, hi));
+    let end = plans::place_on(at, g.on);
+    run::copy_run(bytes, at.row * g.width, end, lo.min(hi));
 }
 
 // The windows that begin and end in the line.
-fn across_part(
-    g: Grid,
-    profile: &[usize],
-    reaches: &[usize],
-    marks: &[u16],
-    bytes: &mut [u8],
-    row: usize,
-    step: usize,
-    lo: usize,
-    hi: usize,
-) -> usize
-    requires row { Row g profile.now reaches.now row step × (size g + size g ≤ length bytes.old) × Marked g
-        marks.now }
-    requires edge_at { EdgeAt g row step step g.back g.width lo × FarEdge g row step g.on hi }
-    ensures { PartDone Sweep.Result g row (min lo hi) hi bytes.old bytes.new result }
+fn across_part(row: &MarkedRow, bytes: &mut [u8], lo: usize, hi: usize) -> usize
+    requires room { let g = row.now.at.tables.grid in size g + size g ≤ length bytes.old }
+    requires edge_at { let g = row.now.at.tables.grid in EdgeAt g row.now.at.row row.now.at.step row.now.at.step g.back
+        g.width lo × FarEdge g row.now.at.row row.now.at.step g.on hi }
+    ensures { PartDone Sweep.Result row.now.at.tables.grid row.now.at.row (min lo hi) hi bytes.old bytes.new result }
 {
     if hi <= lo {
         return 0;
     }
-    let p = plans::result_plan(g, profile, reaches, row, step, lo, hi);
-    walk::walk(g, profile, reaches, marks, bytes, row, step, p)
+    let p = plans::result_plan(&row.at, lo, hi);
+    walk::walk(row, bytes, p)
 }
 
-pub fn result_row(
-    g: Grid,
-    profile: &[usize],
-    reaches: &[usize],
-    marks: &[u16],
-    bytes: &mut [u8],
-    row: usize,
-    step: usize,
-) -> usize
-    requires { Row g profile.now reaches.now row step × (size g + size g ≤ length bytes.old) × Marked g
-        marks.now }
-    ensures { RowSwept Sweep.Result g row bytes.old bytes.new result }
+pub fn result_row(row: &MarkedRow, bytes: &mut [u8]) -> usize
+    requires { let g = row.now.at.tables.grid in size g + size g ≤ length bytes.old }
+    ensures { RowSwept Sweep.Result row.now.at.tables.grid row.now.at.row bytes.old bytes.new result }
 {
-    let lo = walk::edge(g, profile, reaches, row, step, step, g.back, g.width);
-    let hi = plans::far_edge(g, profile, reaches, row, step, g.on);
-    early_part(g, profile, reaches, bytes, row, step, lo, hi);
-    let across = across_part(g, profile, reaches, marks, bytes, row, step, lo, hi);
-    let rest = rest::rest_part(g, profile, reaches, marks, bytes, row, step, hi);
+    let g = row.at.tables.grid;
+    let lo = walk::edge(&row.at, row.at.step, g.back, g.width);
+    let hi = plans::far_edge(&row.at, g.on);
+    early_part(&row.at, bytes, lo, hi);
+    let across = across_part(row, bytes, lo, hi);
+    let rest = rest::rest_part(row, bytes, hi);
     across + rest
 }

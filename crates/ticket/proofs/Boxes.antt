@@ -4,15 +4,15 @@ use Prim.Native.Nat.{ℕ, zero, suc, ◌+◌, ◌-◌, ◌*◌, ◌<◌, ◌≤�
 use native.Mathlib.Numerals.{add-one}
 use native.Mathlib.Omega.{arith}
 use borrow.Author.Tests.{eq-eqb, ne_eqb, lt-ltb, le-ltb}
-use mathlib.Core.Bool.{Bool, true, false, cond}
+use mathlib.Core.Bool.{cond}
 use mathlib.Core.List.{List, [], ◌∷◌, ◌++◌, append-nil}
 use lib.ListN.{length, take, drop, set, replicate, take-append-drop, length-set}
 use lib.Seq.{take-suc-set, append_snoc, drop-set-lt, drop-drop, length-take-le}
 use lib.Dec.{eqb}
-use Rattle.refusal.specs.Answer.{is_done}
-use Rattle.refusal.specs.Chain.{◌then◌, then_on, then_stop}
-use Rattle.refusal.specs.declared.Answer.{Answer}
-use Rattle.refusal.specs.declared.Answer.TheVariants.{Done}
+use Rattle.std.specs.Prelude.{Ok, Err}
+use Rattle.refusal.specs.Answer.{Answer, done_with}
+use Rattle.refusal.specs.Chain.{◌then◌, then_ok, then_err}
+use Rattle.refusal.specs.declared.Refused.{Refused}
 use Rattle.fields.specs.Fields.{first_box, field_end}
 use Rattle.ticket.specs.Boxes.{box_at, boxes_from, boxes_in}
 use Rattle.ticket.specs.Judging.{judge_box, judge_boxes}
@@ -25,27 +25,27 @@ rest s head k = judge_boxes s head k (65 - k)
 
 module _ (s : List ℕ) (head k : ℕ) where
   one_more : k < 65
-      → rest s head k ≡ cond (eqb (length s) head) (Done 0) (judge_box s head k then rest s (field_end s head) (k + 1))
+      → rest s head k
+      ≡ cond (eqb (length s) head) (done_with 0) (judge_box s head k then rest s (field_end s head) (k + 1))
   unfolding judge_boxes
   one_more h =
       let n : 65 - k ≡ suc (65 - (k + 1)) = omega arith in
       rw (n, add-one k)
 
-  pub rest_over : k < 65 → length s ≡ head → rest s head k ≡ Done 0
+  pub rest_over : k < 65 → length s ≡ head → rest s head k ≡ done_with 0
   rest_over h e = one_more h ∙ rw (eq-eqb (length s) head e)
 
-  module _ {v : Answer} {g : Bool} (h : k < 65) (more : length s ≡ head → ⊥) (found : v ≡ judge_box s head k)
-      (done : g ≡ is_done v) where
-    further : rest s head k ≡ (judge_box s head k then rest s (field_end s head) (k + 1))
-    further = one_more h ∙ rw (ne_eqb (length s) head more)
+  module _ {v : Answer} (h : k < 65) (more : length s ≡ head → ⊥) (found : v ≡ judge_box s head k) where
+    further : rest s head k ≡ (v then rest s (field_end s head) (k + 1))
+    further = one_more h ∙ rw (ne_eqb (length s) head more, found)
 
-    pub rest_on : {next : ℕ} → next ≡ field_end s head → g ≡ true → rest s head k ≡ rest s next (k + 1)
-    rest_on e t = further ∙ then_on (judge_box s head k) (rest s (field_end s head) (k + 1)) (cc) ∙ rw e
+    pub rest_on : {work next : ℕ} → v ≡ Ok work → next ≡ field_end s head → rest s head k ≡ rest s next (k + 1)
+    rest_on was e = further ∙ rw (was, then_ok, e) refl
 
-    pub rest_stop : g ≡ false → rest s head k ≡ v
-    rest_stop f = further ∙ then_stop (judge_box s head k) (rest s (field_end s head) (k + 1)) (cc) ∙ sym found
+    pub rest_stop : {refused : Refused} → v ≡ Err refused → rest s head k ≡ Err refused
+    rest_stop was = further ∙ rw (was, then_err) refl
 
-  pub rest_none : 65 ≤ k → rest s head k ≡ Done 0
+  pub rest_none : 65 ≤ k → rest s head k ≡ done_with 0
   unfolding judge_boxes
   rest_none h =
       let n : 65 - k ≡ 0 = omega arith in

@@ -6,6 +6,7 @@ use Rattle.vectors.specs.Vector.{shallow, steep}
 use Rattle.fields.specs.Vectors.{coprime}
 use Rattle.ticket.specs.Reading.{no_box}
 use Rattle.ticket.specs.declared.HiddenBox.{HiddenBox}
+use Rattle.ticket.specs.declared.LineKind.TheVariants.{Connected, Periodic}
 use Rattle.ticket.specs.declared.Ticket.{Ticket}
 
 -- a box's numbers have two bytes each
@@ -15,21 +16,17 @@ pub record TwoBytes (b : HiddenBox) : Type 0 where
   pub width : b.width < 65536
   pub height : b.height < 65536
 
--- the fields of a ticket that was read
+-- the fields of a ticket that was read; its operation and its kind of line are known by their types
 pub record Allowed (t : Ticket) : Type 0 where
-  pub operation_from : 1 ≤ t.operation
-  pub operation_to : t.operation ≤ 4
-  pub line_from : 1 ≤ t.line
-  pub line_to : t.line ≤ 2
   pub runs : (shallow t.dx t.dy || steep t.dx t.dy) ≡ true
   pub dx_to : nat_abs t.dx ≤ 255
   pub dy_to : nat_abs t.dy ≤ 255
-  pub connected_coprime : t.line ≡ 1 → coprime t.dx t.dy ≡ true
+  pub connected_coprime : t.line ≡ Connected → coprime t.dx t.dy ≡ true
   pub length_from : 1 ≤ t.length
   pub length_to : t.length ≤ 8192
   pub origin_below : t.origin < t.length
-  pub connected_phase : t.line ≡ 1 → t.phase < max (nat_abs t.dx) (nat_abs t.dy)
-  pub periodic_phase : t.line ≡ 2 → t.phase ≡ 0
+  pub connected_phase : t.line ≡ Connected → t.phase < max (nat_abs t.dx) (nat_abs t.dy)
+  pub periodic_phase : t.line ≡ Periodic → t.phase ≡ 0
   pub count_to : t.count ≤ 64
   pub places : length t.boxes ≡ 64
   pub box_numbers_lem : (k : ℕ) → TwoBytes (get_or t.boxes k no_box)

@@ -4,11 +4,13 @@
 -- the head would start." A judgement that finds nothing to refuse is done, with no work.
 -- Assumes nothing.
 use Rattle.std.specs.Prelude.{ℕ, zero, suc, ◌+◌, Bool, ◌&&◌, cond, List, length, ltb, leb, eqb}
+use Rattle.refusal.specs.Answer.{Answer, done_with}
 use Rattle.refusal.specs.Chain.{unless, ◌then◌}
-use Rattle.refusal.specs.declared.Answer.{Answer}
-use Rattle.refusal.specs.declared.Answer.TheVariants.{Done}
-use Rattle.refusal.specs.declared.Refusal.TheVariants.{TicketEnds, WrongTag, WrongLength, Unknown, TooManyBoxes, BadVector, BadLength, BadOrigin, BadPhase}
-use Rattle.fields.specs.Fields.{head_bytes, byte_at, number_at, operation_head, line_head, vector_head, length_head, origin_head, phase_head, first_box, field_end, most_boxes, operation_in, line_in, dx_in, dy_in, length_in, origin_in, phase_in}
+use Rattle.refusal.specs.declared.Refusal.TheVariants.{TicketEnds, WrongTag, WrongLength, Unknown, TooManyBoxes}
+use Rattle.refusal.specs.declared.Refusal.TheVariants.{BadVector, BadLength, BadOrigin, BadPhase}
+use Rattle.fields.specs.Fields.{head_bytes, byte_at, number_at, operation_head, line_head, vector_head, length_head}
+use Rattle.fields.specs.Fields.{origin_head, phase_head, first_box, field_end, most_boxes, operation_in, line_in}
+use Rattle.fields.specs.Fields.{dx_in, dy_in, length_in, origin_in, phase_in}
 use Rattle.fields.specs.Vectors.{vector_allowed, phase_allowed}
 
 -- | 1 | ticket ends in a field, or before one of tags 1 to 6 |, | 2 | a tag other than the one due |
@@ -47,7 +49,9 @@ origin_allowed l o = ltb o l
 
 -- the six fields that stand once
 unfoldable pub judge_operation : List ℕ → Answer
-judge_operation s = judge_field s operation_head 1 1 then unless (operation_known (operation_in s)) Unknown operation_head
+judge_operation s =
+    judge_field s operation_head 1 1
+    then unless (operation_known (operation_in s)) Unknown operation_head
 
 unfoldable pub judge_line : List ℕ → Answer
 judge_line s = judge_field s line_head 2 1 then unless (line_known (line_in s)) Unknown line_head
@@ -61,7 +65,9 @@ unfoldable pub judge_length : List ℕ → Answer
 judge_length s = judge_field s length_head 4 2 then unless (length_allowed (length_in s)) BadLength length_head
 
 unfoldable pub judge_origin : List ℕ → Answer
-judge_origin s = judge_field s origin_head 5 2 then unless (origin_allowed (length_in s) (origin_in s)) BadOrigin origin_head
+judge_origin s =
+    judge_field s origin_head 5 2
+    then unless (origin_allowed (length_in s) (origin_in s)) BadOrigin origin_head
 
 unfoldable pub judge_phase : List ℕ → Answer
 judge_phase s =
@@ -76,9 +82,9 @@ judge_box s head k =
 -- the boxes from the k-th on, whose head is due at `head`, until the ticket ends before a head; n is how many more
 -- may be judged
 unfoldable pub judge_boxes : List ℕ → ℕ → ℕ → ℕ → Answer
-judge_boxes s head k zero = Done 0
+judge_boxes s head k zero = done_with 0
 judge_boxes s head k (suc n) =
-    cond (eqb (length s) head) (Done 0) (judge_box s head k then judge_boxes s (field_end s head) (suc k) n)
+    cond (eqb (length s) head) (done_with 0) (judge_box s head k then judge_boxes s (field_end s head) (suc k) n)
 
 -- the whole ticket: the 65th box is refused by its judgement, so 65 may be judged
 unfoldable pub judged : List ℕ → Answer

@@ -1,31 +1,35 @@
 -- The laws of a ticket that was read, as callers cite them, with their proofs: its fields are allowed (Allowed), and
--- what the reader shows at each answer. Assumes nothing.
+-- what is read at each answer. Assumes nothing.
 pub use Rattle.ticket.specs.Allowed.{TwoBytes, Allowed, Bytes}
-use Rattle.std.specs.Prelude.{◌≡◌, refl, ℕ, zero, suc, ◌+◌, ◌-◌, ◌<◌, ◌≤◌, max, Bool, true, false, ◌||◌, List, [], ◌∷◌, ◌++◌, length, get_or, take, replicate, ltb, eqb, ℤ, nat_abs}
-use Rattle.std.proofs.Common.{ap, ◌∙◌, arith, ltb-true, leb-true, eqb-true, le-leb, lt-ltb, length-append}
+use Rattle.std.specs.Prelude.{◌≡◌, refl, ℕ, zero, suc, ◌+◌, ◌-◌, ◌<◌, ◌≤◌, max, Bool, true, false, ◌||◌}
+use Rattle.std.specs.Prelude.{List, [], ◌∷◌, ◌++◌, length, get_or, take, replicate, ltb, eqb, ℤ, nat_abs, Ok, Err}
+use Rattle.std.proofs.Common.{ap, ◌∙◌, sym, subst, arith, ltb-true, leb-true, eqb-true, le-leb, lt-ltb, length-append}
 use Rattle.std.proofs.Math.Path.{ap₂}
-use Rattle.std.proofs.Math.Logic.{by_cases}
-use Rattle.std.proofs.Math.Decide.{dec_le}
 use Rattle.std.proofs.Math.Bool.{not, ◌&&◌, cond}
+use Rattle.std.proofs.lemmas.Bool.{eqb-false}
 use Rattle.std.proofs.lemmas.List.{length-replicate}
 use Rattle.std.proofs.Math.Seq.{take-append_seam}
 use Rattle.std.proofs.Math.Dec.{leb}
 use Rattle.vectors.specs.Vector.{shallow, steep}
-use Rattle.refusal.specs.Answer.{is_done}
-use Rattle.refusal.specs.Chain.{unless, ◌then◌, then_done, unless_done, when_done_lem, when_refused}
-use Rattle.refusal.specs.declared.Answer.{Answer}
+use Rattle.refusal.specs.Answer.{is_done, Answer, done_with}
+use Rattle.refusal.specs.Chain.{unless, ◌then◌, then_on, then_done, unless_done, given}
+use Rattle.refusal.specs.Chain.{not_given}
 use Rattle.refusal.specs.declared.Refusal.{Refusal}
-use Rattle.refusal.specs.declared.Refusal.TheVariants.{Unknown, BadVector, BadLength, BadOrigin, BadPhase}
-use Rattle.fields.specs.Fields.{byte_at, number_at, first_box, field_end, operation_in, line_in, dx_in, dy_in, length_in}
-use Rattle.fields.specs.Fields.{origin_in, phase_in}
+use Rattle.refusal.specs.declared.Refused.{Refused}
+use Rattle.refusal.specs.declared.Refusal.TheVariants.{BadVector, BadLength, BadOrigin, BadPhase}
+use Rattle.fields.specs.Fields.{byte_at, number_at, first_box, field_end, line_in, dx_in, dy_in}
+use Rattle.fields.specs.Fields.{length_in, origin_in, phase_in}
 use Rattle.ticket.specs.Boxes.{box_at, boxes_from, boxes_in}
 use Rattle.fields.specs.Vectors.{divided, coprime, vector_allowed, phase_allowed}
 use Rattle.ticket.specs.Judging.{operation_known, line_known, is_periodic, length_allowed, origin_allowed, judge_field}
 use Rattle.ticket.specs.Judging.{judge_operation, judge_line, judge_vector, judge_length, judge_origin, judge_phase}
-use Rattle.ticket.specs.Judging.{judge_boxes, judged}
-use Rattle.ticket.specs.Reading.{no_box, blank, box_places, shown, reading}
+use Rattle.ticket.specs.Judging.{judge_box, judge_boxes, judged}
+use Rattle.ticket.specs.Reading.{no_box, operation_of, kind_of, operation_number, line_number, periodic_kind, box_places}
+use Rattle.ticket.specs.Reading.{shown, reading}
 use Rattle.ticket.specs.declared.HiddenBox.{HiddenBox}
-use Rattle.ticket.specs.declared.Reading.{Reading}
+use Rattle.ticket.specs.declared.LineKind.{LineKind}
+use Rattle.ticket.specs.declared.LineKind.TheVariants.{Connected, Periodic}
+use Rattle.ticket.specs.declared.Operation.TheVariants.{Erode, Dilate, Open, Close}
 use Rattle.ticket.specs.declared.Ticket.{Ticket}
 
 both : (a b : Bool) → (a && b) ≡ true → (a ≡ true) × (b ≡ true)
@@ -146,14 +150,77 @@ all_good s good =
       boxes = phase.1;
     }
 
--- a connected line's vector and phase, and a periodic line's phase
-connected : {line : ℕ} → line ≡ 1 → is_periodic line ≡ false
-unfolding is_periodic
-connected e = rw e
+-- a good ticket is judged without any work
+then_no_work : (a b : Answer) → (is_done b ≡ true → b ≡ done_with 0) → is_done (a then b) ≡ true
+    → (a then b) ≡ done_with 0
+then_no_work a b more h =
+    let both_done = then_done a b h in
+    then_on a b both_done.0 ∙ more both_done.1
 
-periodic : {line : ℕ} → line ≡ 2 → is_periodic line ≡ true
-unfolding is_periodic
-periodic e = rw e
+one_no_work : (over : Bool) (a b : Answer) → (is_done b ≡ true → b ≡ done_with 0)
+    → is_done (cond over (done_with 0) (a then b)) ≡ true
+    → cond over (done_with 0) (a then b) ≡ done_with 0
+one_no_work true a b more h = refl
+one_no_work false a b more h = then_no_work a b more h
+
+boxes_no_work : (s : List ℕ) (head k n : ℕ) → is_done (judge_boxes s head k n) ≡ true
+    → judge_boxes s head k n ≡ done_with 0
+unfolding judge_boxes
+boxes_no_work s head k zero h = refl
+boxes_no_work s head k (suc n) h =
+    let next = field_end s head in
+    let more = boxes_no_work s next (suc k) n in
+    one_no_work (eqb (length s) head) (judge_box s head k) (judge_boxes s next (suc k) n) more h
+
+pub good_no_work : (s : List ℕ) → is_done (judged s) ≡ true → judged s ≡ done_with 0
+unfolding judged
+good_no_work s good =
+    then_no_work (judge_operation s) _
+    (then_no_work (judge_line s) _
+    (then_no_work (judge_vector s) _
+    (then_no_work (judge_length s) _
+    (then_no_work (judge_origin s) _
+    (then_no_work (judge_phase s) _ (boxes_no_work s first_box 0 65))))))
+    good
+
+-- a connected line's vector and phase, and a periodic line's phase
+pub kind_periodic : (n : ℕ) → periodic_kind (kind_of n) ≡ is_periodic n
+unfolding periodic_kind kind_of is_periodic
+kind_periodic n = kind_by (eqb n 2)
+  where
+    kind_by : (b : Bool) → periodic_kind (cond b Periodic Connected) ≡ b
+    kind_by true = refl
+    kind_by false = refl
+
+connected : (n : ℕ) → kind_of n ≡ Connected → is_periodic n ≡ false
+unfolding periodic_kind
+connected n e = sym (kind_periodic n) ∙ ap periodic_kind e
+
+periodic : (n : ℕ) → kind_of n ≡ Periodic → is_periodic n ≡ true
+unfolding periodic_kind
+periodic n e = sym (kind_periodic n) ∙ ap periodic_kind e
+
+-- the number of what a known number is, is the number
+pub operation_back : (n : ℕ) → operation_known n ≡ true → operation_number (operation_of n) ≡ n
+unfolding operation_known operation_number operation_of
+operation_back n known = by (eqb n 1) (eqb n 2) (eqb n 3) refl refl refl
+  where
+    by : (one two three : Bool) → eqb n 1 ≡ one → eqb n 2 ≡ two → eqb n 3 ≡ three
+        → operation_number (cond one Erode (cond two Dilate (cond three Open Close))) ≡ n
+    by true two three a b c = sym (eqb-true n 1 a)
+    by false true three a b c = sym (eqb-true n 2 b)
+    by false false true a b c = sym (eqb-true n 3 c)
+    by false false false a b c =
+        let limits = between 1 n 4 known in
+        omega (arith, limits.0, limits.1, eqb-false n 1 a, eqb-false n 2 b, eqb-false n 3 c)
+
+pub line_back : (n : ℕ) → line_known n ≡ true → line_number (kind_of n) ≡ n
+unfolding line_known line_number kind_of
+line_back n known = by (eqb n 2) refl
+  where
+    by : (two : Bool) → eqb n 2 ≡ two → line_number (cond two Periodic Connected) ≡ n
+    by true a = sym (eqb-true n 2 a)
+    by false a = let limits = between 1 n 2 known in omega (arith, limits.0, limits.1, eqb-false n 2 a)
 
 second : (a b : Bool) → (a || b) ≡ true → a ≡ false → b ≡ true
 second a b h e = rw e at h
@@ -176,75 +243,60 @@ good_allowed s bytes good =
     let runs = shallow (dx_in s) (dy_in s) || steep (dx_in s) (dy_in s) in
     let small = leb (nat_abs (dx_in s)) 255 && leb (nat_abs (dy_in s)) 255 in
     let apart = p || coprime (dx_in s) (dy_in s) in
-    let operation = between 1 (operation_in s) 4 (value (judge_field s 0 1 1) _ Unknown 0 g.operation) in
-    let line = between 1 (line_in s) 2 (value (judge_field s 4 2 1) _ Unknown 4 g.line) in
     let vector = both (runs && small) apart (value (judge_field s 8 3 4) _ BadVector 8 g.vector) in
     let slope = both runs small vector.0 in
     let sizes = both (leb (nat_abs (dx_in s)) 255) (leb (nat_abs (dy_in s)) 255) slope.1 in
     let reach = between 1 (length_in s) 8192 (value (judge_field s 15 4 2) _ BadLength 15 g.length) in
     let phase = value (judge_field s 25 6 2) (phase_allowed p (dx_in s) (dy_in s) (phase_in s)) BadPhase 25 g.phase in
     record {
-      operation_from = operation.0;
-      operation_to = operation.1;
-      line_from = line.0;
-      line_to = line.1;
       runs = slope.0;
       dx_to = leb-true (nat_abs (dx_in s)) 255 sizes.0;
       dy_to = leb-true (nat_abs (dy_in s)) 255 sizes.1;
-      connected_coprime = λ e. second p (coprime (dx_in s) (dy_in s)) vector.1 (connected e);
+      connected_coprime = λ e. second p (coprime (dx_in s) (dy_in s)) vector.1 (connected (line_in s) e);
       length_from = reach.0;
       length_to = reach.1;
       origin_below = ltb-true (origin_in s) (length_in s) (value (judge_field s 20 5 2) _ BadOrigin 20 g.origin);
-      connected_phase = λ e. connected_below p (dx_in s) (dy_in s) (phase_in s) phase (connected e);
-      periodic_phase = λ e. periodic_zero p (dx_in s) (dy_in s) (phase_in s) phase (periodic e);
+      connected_phase = λ e. connected_below p (dx_in s) (dy_in s) (phase_in s) phase (connected (line_in s) e);
+      periodic_phase = λ e. periodic_zero p (dx_in s) (dy_in s) (phase_in s) phase (periodic (line_in s) e);
       count_to = boxes_few s;
       places = places_length (boxes_in s) (boxes_few s);
       box_numbers_lem = λ k. places_small s k bytes;
     }
 
--- what the reader shows of a ticket that is good, and of one that is refused
-pub reading_good : (s : List ℕ) → is_done (judged s) ≡ true → (reading s).ticket ≡ shown s
+-- what a caller knows who has called the reader: of a ticket that was read, and of a refusal
+pub read_good : (s : List ℕ) (t : Ticket) → reading s ≡ Ok t → (is_done (judged s) ≡ true) × (shown s ≡ t)
 unfolding reading
-reading_good s h = when_done_lem (judged s) (shown s) blank h
+read_good s t e = given (judged s) (shown s) t e
 
-pub reading_refused : (s : List ℕ) → is_done (judged s) ≡ false → (reading s).ticket ≡ blank
+pub read_refused : (s : List ℕ) (refused : Refused) → reading s ≡ Err refused → judged s ≡ Err refused
 unfolding reading
-reading_refused s h = when_refused (judged s) (shown s) blank h
+read_refused s refused e = not_given (judged s) (shown s) refused e
 
--- the same law as a caller meets it, who has called the reader and found its answer done
-pub read_allowed : (s : List ℕ) (r : Reading) → Bytes s → r ≡ reading s → is_done r.answer ≡ true
-    → Allowed r.ticket
-unfolding reading
-read_allowed s r bytes e done =
-    let good : is_done (judged s) ≡ true = rw e at done in
-    rw (e, reading_good s good) (good_allowed s bytes good)
+pub read_allowed : (s : List ℕ) (t : Ticket) → Bytes s → reading s ≡ Ok t → Allowed t
+read_allowed s t bytes e =
+    let good = read_good s t e in
+    subst Allowed good.1 (good_allowed s bytes good.0)
 
 -- ---- back from the fields to the tests of the reader, so that nobody above opens them
 
--- a ticket is of one kind of line or of the other
-kinds : (t : Ticket) → Allowed t → (P : ℕ → Type 0) → (t.line ≡ 1 → P 1) → (t.line ≡ 2 → P 2) → P t.line
-kinds t ok P connected periodic =
-    by_cases
-    (dec_le t.line 1)
-    (λ k.
-    let one : t.line ≡ 1 = omega (arith, ok.line_from) in
-    rw one (connected one))
-    (λ k.
-    let two : t.line ≡ 2 = omega (arith, ok.line_to) in
-    rw two (periodic two))
+-- a line is of one kind or of the other
+pub kinds : (line : LineKind) (P : LineKind → Type 0) → (line ≡ Connected → P Connected) → (line ≡ Periodic → P Periodic)
+    → P line
+kinds Connected P connected periodic = connected refl
+kinds Periodic P connected periodic = periodic refl
 
 -- the vector and the phase of a ticket with allowed fields pass them
-pub vector_passes : (t : Ticket) → Allowed t → vector_allowed (is_periodic t.line) t.dx t.dy ≡ true
-unfolding vector_allowed is_periodic
+pub vector_passes : (t : Ticket) → Allowed t → vector_allowed (periodic_kind t.line) t.dx t.dy ≡ true
+unfolding vector_allowed periodic_kind
 vector_passes t ok =
     ap₂ ◌&&◌ (ap₂ ◌&&◌ ok.runs (ap₂ ◌&&◌ (le-leb _ _ ok.dx_to) (le-leb _ _ ok.dy_to)))
-    (kinds t ok (λ (line : ℕ). (eqb line 2 || coprime t.dx t.dy) ≡ true) ok.connected_coprime (λ e. refl))
+    (kinds t.line (λ (line : LineKind). (periodic_kind line || coprime t.dx t.dy) ≡ true) ok.connected_coprime (λ e. refl))
 
-pub phase_passes : (t : Ticket) → Allowed t → phase_allowed (is_periodic t.line) t.dx t.dy t.phase ≡ true
-unfolding phase_allowed is_periodic
+pub phase_passes : (t : Ticket) → Allowed t → phase_allowed (periodic_kind t.line) t.dx t.dy t.phase ≡ true
+unfolding phase_allowed periodic_kind
 phase_passes t ok =
     let below : ℕ = max (nat_abs t.dx) (nat_abs t.dy) in
-    kinds t ok (λ (line : ℕ). cond (eqb line 2) (eqb t.phase 0) (ltb t.phase below) ≡ true)
+    kinds t.line (λ (line : LineKind). cond (periodic_kind line) (eqb t.phase 0) (ltb t.phase below) ≡ true)
     (λ e. lt-ltb _ _ (ok.connected_phase e))
     (λ e. ap (λ (i : ℕ). eqb i 0) (ok.periodic_phase e))
 

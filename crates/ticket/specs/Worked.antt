@@ -2,6 +2,7 @@
 -- limits that stand in 'The ticket', and boxes found from head to head.
 -- Assumes nothing.
 use Rattle.std.specs.Prelude.{◌≡◌, refl, ℕ, zero, suc, List, [], ◌∷◌, ◌++◌, map}
+use Rattle.refusal.specs.Answer.{Answer, done_with, refused_at}
 use Rattle.vectors.specs.Vector.{shallow, steep}
 use Rattle.fields.specs.Fields.{byte_at, number_at, signed16, signed_at, operation_in, line_in, dx_in, dy_in, length_in}
 use Rattle.fields.specs.Fields.{origin_in, phase_in, field_end}
@@ -12,8 +13,6 @@ use Rattle.ticket.specs.Judging.{length_allowed, origin_allowed, judge_operation
 use Rattle.ticket.specs.Judging.{judge_length, judge_origin, judge_phase, judge_box, judge_boxes, judged}
 use Rattle.ticket.specs.declared.HiddenBox.{HiddenBox}
 use Rattle.refusal.specs.Chain.{unless, ◌then◌}
-use Rattle.refusal.specs.declared.Answer.{Answer}
-use Rattle.refusal.specs.declared.Answer.TheVariants.{Done, Refused}
 use Rattle.refusal.specs.declared.Refusal.TheVariants.{TicketEnds, TooManyBoxes, WrongLength, BadVector, BadLength}
 use Rattle.refusal.specs.declared.Refusal.TheVariants.{BadOrigin, BadPhase}
 
@@ -49,20 +48,20 @@ with_boxes fields = plain 1 (two 0 1) (two 0 0) (two 0 2) (two 0 0) (two 0 0) ++
 
 abbrev cases : List Case
 cases =
-    record { ticket = []; answer = Refused TicketEnds 0 }
-    ∷ record { ticket = plain 1 (two 0 2) (two 0 2) (two 0 2) (two 0 0) (two 0 0); answer = Refused BadVector 8 }
-    ∷ record { ticket = plain 2 (two 0 2) (two 0 2) (two 0 2) (two 0 0) (two 0 0); answer = Done 0 }
-    ∷ record { ticket = plain 1 (two 0 0) (two 0 0) (two 0 2) (two 0 0) (two 0 0); answer = Refused BadVector 8 }
-    ∷ record { ticket = plain 1 (two 0 1) (two 0 0) (two 32 0) (two 0 0) (two 0 0); answer = Done 0 }
-    ∷ record { ticket = plain 1 (two 0 1) (two 0 0) (two 32 1) (two 0 0) (two 0 0); answer = Refused BadLength 15 }
-    ∷ record { ticket = plain 1 (two 0 1) (two 0 0) (two 0 2) (two 0 2) (two 0 0); answer = Refused BadOrigin 20 }
-    ∷ record { ticket = plain 1 (two 0 3) (two 255 254) (two 0 2) (two 0 1) (two 0 2); answer = Done 0 }
-    ∷ record { ticket = plain 1 (two 0 3) (two 255 254) (two 0 2) (two 0 1) (two 0 3); answer = Refused BadPhase 25 }
-    ∷ record { ticket = with_boxes (box 1 ++ box 2); answer = Done 0 }
-    ∷ record { ticket = with_boxes (box 1 ++ two 7 0); answer = Refused TicketEnds 41 }
-    ∷ record { ticket = with_boxes (box 1 ++ longer 2); answer = Refused WrongLength 41 }
-    ∷ record { ticket = with_boxes (boxes 64); answer = Done 0 }
-    ∷ record { ticket = with_boxes (boxes 65); answer = Refused TooManyBoxes 734 }
+    record { ticket = []; answer = refused_at TicketEnds 0 }
+    ∷ record { ticket = plain 1 (two 0 2) (two 0 2) (two 0 2) (two 0 0) (two 0 0); answer = refused_at BadVector 8 }
+    ∷ record { ticket = plain 2 (two 0 2) (two 0 2) (two 0 2) (two 0 0) (two 0 0); answer = done_with 0 }
+    ∷ record { ticket = plain 1 (two 0 0) (two 0 0) (two 0 2) (two 0 0) (two 0 0); answer = refused_at BadVector 8 }
+    ∷ record { ticket = plain 1 (two 0 1) (two 0 0) (two 32 0) (two 0 0) (two 0 0); answer = done_with 0 }
+    ∷ record { ticket = plain 1 (two 0 1) (two 0 0) (two 32 1) (two 0 0) (two 0 0); answer = refused_at BadLength 15 }
+    ∷ record { ticket = plain 1 (two 0 1) (two 0 0) (two 0 2) (two 0 2) (two 0 0); answer = refused_at BadOrigin 20 }
+    ∷ record { ticket = plain 1 (two 0 3) (two 255 254) (two 0 2) (two 0 1) (two 0 2); answer = done_with 0 }
+    ∷ record { ticket = plain 1 (two 0 3) (two 255 254) (two 0 2) (two 0 1) (two 0 3); answer = refused_at BadPhase 25 }
+    ∷ record { ticket = with_boxes (box 1 ++ box 2); answer = done_with 0 }
+    ∷ record { ticket = with_boxes (box 1 ++ two 7 0); answer = refused_at TicketEnds 41 }
+    ∷ record { ticket = with_boxes (box 1 ++ longer 2); answer = refused_at WrongLength 41 }
+    ∷ record { ticket = with_boxes (boxes 64); answer = done_with 0 }
+    ∷ record { ticket = with_boxes (boxes 65); answer = refused_at TooManyBoxes 734 }
     ∷ []
 
 worked : map (λ (c : Case). judged c.ticket) cases ≡ map (λ (c : Case). c.answer) cases

@@ -1,20 +1,17 @@
 // The ticket as shown: its fields, and 64 box places, zero past its boxes.
-ghost use Rattle.std.specs.Prelude.{◌≡◌, ◌<◌, length, replicate};
+ghost use Rattle.std.specs.Prelude.{◌≡◌, ◌<◌, length};
 ghost use Rattle.ticket.specs.Boxes.{box_at, boxes_in};
-ghost use Rattle.ticket.specs.Reading.{no_box, blank, box_places, shown};
+ghost use Rattle.ticket.specs.Reading.{operation_of, kind_of, box_places, shown};
 
-use super::{HiddenBox, Ticket};
+use super::{HiddenBox, LineKind, Operation, Ticket};
 
-fn no_box() -> HiddenBox
-    ensures { result ≡ no_box }
-{
-    HiddenBox {
-        left: 0,
-        top: 0,
-        width: 0,
-        height: 0,
-    }
-}
+// What stands in a box place past the boxes.
+const NO_BOX: HiddenBox = HiddenBox {
+    left: 0,
+    top: 0,
+    width: 0,
+    height: 0,
+};
 
 fn box_at(s: &[u8], head: usize) -> HiddenBox
     requires { head < 8388608 }
@@ -29,14 +26,8 @@ fn box_at(s: &[u8], head: usize) -> HiddenBox
     }
 }
 
-fn no_boxes() -> [HiddenBox; 64]
-    ensures { result ≡ replicate 64 no_box }
-{
-    let none = no_box();
-    [none; 64]
-}
-
 // The boxes of a ticket, found by one walk from head to head: how many they are, and their places.
+// Stays: 64 places with a count beside, as a Ticket shows them.
 #[derive(Clone, Copy)]
 struct Boxes {
     count: usize,
@@ -47,51 +38,60 @@ fn find_boxes(s: &[u8]) -> Boxes
     ensures counted { result.count ≡ length (boxes_in s.now) }
     ensures placed { result.places ≡ box_places (boxes_in s.now) }
 {
-    let mut places = no_boxes();
-    let mut head: usize = fields::value::FIRST_BOX;
-    let mut count: usize = 0;
-    while count < fields::value::MOST_BOXES {
+    let mut places = [NO_BOX; 64];
+    let mut head = fields::value::FIRST_BOX;
+    for count in 0..fields::value::MOST_BOXES {
         if s.len() <= head {
             return Boxes { count, places };
         }
         places[count] = box_at(s, head);
         head = fields::value::field_end(s, head);
-        count += 1;
     }
-    Boxes { count, places }
+    Boxes {
+        count: fields::value::MOST_BOXES,
+        places,
+    }
 }
 
-pub fn blank_ticket() -> Ticket
-    ensures { result ≡ blank }
+// The operation of a number, and the kind of line: of a ticket that is read both are known.
+// Stays: tests and no `match`, as its arm `_` tells a proof nothing of the number: the last operation stays open.
+fn operation_of(n: u8) -> Operation
+    ensures { result ≡ operation_of n }
 {
-    let boxes = no_boxes();
-    Ticket {
-        operation: 0,
-        line: 0,
-        dx: 0,
-        dy: 0,
-        length: 0,
-        origin: 0,
-        phase: 0,
-        count: 0,
-        boxes,
+    if n == 1 {
+        Operation::Erode
+    } else if n == 2 {
+        Operation::Dilate
+    } else if n == 3 {
+        Operation::Open
+    } else {
+        Operation::Close
+    }
+}
+
+fn kind_of(n: u8) -> LineKind
+    ensures { result ≡ kind_of n }
+{
+    if n == 2 {
+        LineKind::Periodic
+    } else {
+        LineKind::Connected
     }
 }
 
 pub fn show(s: &[u8]) -> Ticket
     ensures { result ≡ shown s.now }
 {
-    let found = find_boxes(s);
-    let boxes = found.places;
+    let Boxes { count, places } = find_boxes(s);
     Ticket {
-        operation: fields::value::operation_in(s) as usize,
-        line: fields::value::line_in(s) as usize,
+        operation: operation_of(fields::value::operation_in(s)),
+        line: kind_of(fields::value::line_in(s)),
         dx: fields::value::dx_in(s),
         dy: fields::value::dy_in(s),
         length: fields::value::length_in(s) as usize,
         origin: fields::value::origin_in(s) as usize,
         phase: fields::value::phase_in(s) as usize,
-        count: found.count,
-        boxes,
+        count,
+        boxes: places,
     }
 }

@@ -11,7 +11,7 @@ mod judge; // judge.rt: the answer, field by field
 ghost use Rattle.std.specs.Prelude.{◌≡◌};
 ghost use Rattle.ticket.specs.Reading.{reading};
 
-use refusal::{Answer, report};
+use refusal::Refused;
 
 // A box whose pixels are hidden: its left column, its top row, its sides.
 #[derive(Clone, Copy)]
@@ -22,44 +22,42 @@ pub struct HiddenBox {
     pub height: usize,
 }
 
+// "operation: 1 erode, 2 dilate, 3 open, 4 close"
+#[derive(Clone, Copy)]
+pub enum Operation {
+    Erode = 1,
+    Dilate = 2,
+    Open = 3,
+    Close = 4,
+}
+
+// "line: 1 connected (Bresenham), 2 periodic"
+#[derive(Clone, Copy)]
+pub enum LineKind {
+    Connected = 1,
+    Periodic = 2,
+}
+
 // The ticket as shown: its fields, how many boxes it has, and 64 box places.
+// Stays: `Allowed` in the contracts, no ghost field: `shown` builds the ticket of any bytes, refused ones too.
 #[derive(Clone, Copy)]
 pub struct Ticket {
-    pub operation: usize,
-    pub line: usize,
+    pub operation: Operation,
+    pub line: LineKind,
     pub dx: i32,
     pub dy: i32,
     pub length: usize,
     pub origin: usize,
     pub phase: usize,
+    // Stays: 64 places with their count beside, as `box_places` and `numbers_of` state them; there is no heap here.
     pub count: usize,
     pub boxes: [HiddenBox; 64],
 }
 
-// What the reader answers: that the ticket is good, or the first refusal and the head of its field; and the ticket as
-// shown.
-#[derive(Clone, Copy)]
-pub struct Reading {
-    pub answer: Answer,
-    pub ticket: Ticket,
-}
-
-// The reading of every string of bytes; at a refusal every field and box is zero.
-pub fn read(ticket: &[u8]) -> Reading
+// The reading of every string of bytes: the ticket as shown, or the first refusal and the head of its field.
+pub fn read(ticket: &[u8]) -> Result<Ticket, Refused>
     ensures { result ≡ reading ticket.now }
 {
-    let answer = judge::judge(ticket);
-    if report::is_done(answer) {
-        let shown = fill::show(ticket);
-        Reading {
-            answer,
-            ticket: shown,
-        }
-    } else {
-        let blank = fill::blank_ticket();
-        Reading {
-            answer,
-            ticket: blank,
-        }
-    }
+    judge::judge(ticket)?;
+    Ok(fill::show(ticket))
 }

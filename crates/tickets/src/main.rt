@@ -17,9 +17,8 @@
 
 mod text;
 
-ghost use Rattle.std.specs.Prelude.{◌<◌, ◌≤◌, length};
+ghost use Rattle.std.specs.Prelude.{◌<◌, IfSome, length};
 
-use refusal::{Answer, report};
 use std::io;
 use std::io::Read;
 
@@ -27,46 +26,28 @@ use std::io::Read;
 const LONGEST_LIST: u64 = 65536;
 
 fn print_ticket(rt: &impl Print, s: &[u8]) -> io::Result<()> {
-    let reading = ticket::read(s);
-    match reading.answer {
-        Answer::Done(_) => text::print_good(rt, &reading.ticket),
-        Answer::Refused(refusal, place) => text::print_refused(
-            rt,
-            report::refusal_number(refusal),
-            place,
-        ),
+    match ticket::read(s) {
+        Ok(ticket) => text::print_good(rt, &ticket),
+        Err(refused) => println!(rt; "{refused}"),
     }
 }
 
-fn wide(b: u8) -> usize
-    ensures { result < 256 }
+// The first entry of a list, behind its length, and what follows it; none where the list ends inside the entry.
+fn split_entry(list: &[u8]) -> Option<(&[u8], &[u8])>
+    ensures { IfSome result (λ parts. length parts.1.now < length list.now) }
 {
-    b as usize
-}
-
-// The index behind the entry at `at`, or 0 where the list ends inside it.
-fn entry_end(list: &[u8], at: usize) -> usize
-    requires { at < length list.now }
-    ensures { result ≤ length list.now }
-{
-    let left = list.len() - at;
-    if left < 2 {
-        return 0;
-    }
-    let size = 256 * wide(list[at]) + wide(list[at + 1]);
-    if left - 2 < size { 0 } else { at + 2 + size }
+    let (size, rest) = list.split_first_chunk::<2>()?;
+    rest.split_at_checked(usize::from(u16::from_be_bytes(*size)))
 }
 
 fn print_list(rt: &impl Print, list: &[u8]) -> io::Result<()> {
-    let mut at: usize = 0;
-    while at < list.len() {
-        let start = at + 2;
-        let end = entry_end(list, at);
-        if end < start {
+    let mut rest = list;
+    while !rest.is_empty() {
+        let Some((entry, others)) = split_entry(rest) else {
             return text::print_cut(rt);
-        }
-        print_ticket(rt, &list[start..end])?;
-        at = end;
+        };
+        print_ticket(rt, entry)?;
+        rest = others;
     }
     Ok(())
 }

@@ -1,4 +1,3 @@
-mod Stores
 pub mod Lent
 mod Painting
 mod Rectangles

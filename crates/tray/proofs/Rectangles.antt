@@ -11,7 +11,8 @@ use Rattle.geometry.specs.Drift.{mirrored}
 use Rattle.geometry.proofs.Laws.{mirrored_falling, mirrored_rising}
 use Rattle.tray.specs.declared.Layout.{Layout}
 use Rattle.tray.specs.declared.Rectangle.{Rectangle}
-use Rattle.tray.specs.Turned.{down_of, across_of, compact_width, compact_height, compact_row, compact_column, compact_at}
+use Rattle.tray.specs.Turned.{down_of, across_of, compact_width, compact_height, compact_row, compact_column}
+use Rattle.tray.specs.Turned.{compact_at}
 use Rattle.tray.specs.Turned.{InRectangle, mirrored_from, mirrored_to, turned_box}
 use Rattle.tray.specs.Promises.{RectangleFits, RectangleInRows, RectanglePainted, BoxPainted}
 use Rattle.tray.specs.Laws.{laid_so, sides_product, compact_column_in}
@@ -52,11 +53,21 @@ module _
         by_way true =
             let across =
             mirrored_between lay.falls lay.width x.left x.right c right_in c_in i.from_left i.before_right in
-            record { below_top = i.below_top; above_bottom = i.above_bottom; from_left = across.0; before_right = across.1 }
+            record {
+              below_top = i.below_top;
+              above_bottom = i.above_bottom;
+              from_left = across.0;
+              before_right = across.1;
+            }
         by_way false =
             let across =
             mirrored_between lay.falls lay.height x.top x.bottom r bottom_in r_in i.below_top i.above_bottom in
-            record { below_top = i.from_left; above_bottom = i.before_right; from_left = across.0; before_right = across.1 }
+            record {
+              below_top = i.from_left;
+              above_bottom = i.before_right;
+              from_left = across.0;
+              before_right = across.1;
+            }
 
     turned_in : InRectangle (turned_box lay x) (compact_row lay c r) (compact_column lay c r) → InRectangle x r c
     unfolding turned_box compact_column down_of across_of
@@ -66,11 +77,21 @@ module _
         by_way true i =
             let across =
             between_mirrored lay.falls lay.width x.left x.right c right_in c_in i.from_left i.before_right in
-            record { below_top = i.below_top; above_bottom = i.above_bottom; from_left = across.0; before_right = across.1 }
+            record {
+              below_top = i.below_top;
+              above_bottom = i.above_bottom;
+              from_left = across.0;
+              before_right = across.1;
+            }
         by_way false i =
             let across =
             between_mirrored lay.falls lay.height x.top x.bottom r bottom_in r_in i.from_left i.before_right in
-            record { below_top = across.0; above_bottom = across.1; from_left = i.below_top; before_right = i.above_bottom }
+            record {
+              below_top = across.0;
+              above_bottom = across.1;
+              from_left = i.below_top;
+              before_right = i.above_bottom;
+            }
 
 module _ (lay : Layout) (x : Rectangle) (on : RectangleFits x lay.width lay.height) where
   bottom_turned : (turned_box lay x).bottom ≤ compact_height lay

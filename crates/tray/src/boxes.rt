@@ -7,26 +7,13 @@ use crate::paint::paint;
 use crate::sides::compact_width;
 use crate::{Layout, Rectangle};
 
-// Of w columns those from m to just before n are mirrored where the line falls: this is the first of them.
-fn mirrored_from(falls: bool, w: usize, m: usize, n: usize) -> usize
-    requires { n ≤ w }
-    ensures { result ≡ mirrored_from falls w m n }
+// Of w columns those from m to just before n are mirrored where the line falls: then the first of them, and the one
+// past their last.
+fn mirrored_sides(falls: bool, w: usize, m: usize, n: usize) -> (usize, usize)
+    requires { (m ≤ w) × (n ≤ w) }
+    ensures { (result.0 ≡ mirrored_from falls w m n) × (result.1 ≡ mirrored_to falls w m n) }
 {
-    if falls {
-        return w - n;
-    }
-    m
-}
-
-// Of the same columns, mirrored, the one past their last.
-fn mirrored_to(falls: bool, w: usize, m: usize, n: usize) -> usize
-    requires { m ≤ w }
-    ensures { result ≡ mirrored_to falls w m n }
-{
-    if falls {
-        return w - m;
-    }
-    n
+    if falls { (w - n, w - m) } else { (m, n) }
 }
 
 // Where a rectangle of the page lies on the compact page.
@@ -35,22 +22,21 @@ pub fn turned_box(lay: Layout, x: Rectangle) -> Rectangle
     ensures { result ≡ turned_box lay x }
 {
     if lay.steep {
-        let left = mirrored_from(lay.falls, lay.width, x.left, x.right);
-        let right = mirrored_to(lay.falls, lay.width, x.left, x.right);
-        return Rectangle {
+        let (left, right) = mirrored_sides(lay.falls, lay.width, x.left, x.right);
+        Rectangle {
             top: x.top,
             bottom: x.bottom,
-            left: left,
-            right: right,
-        };
-    }
-    let left = mirrored_from(lay.falls, lay.height, x.top, x.bottom);
-    let right = mirrored_to(lay.falls, lay.height, x.top, x.bottom);
-    Rectangle {
-        top: x.left,
-        bottom: x.right,
-        left: left,
-        right: right,
+            left,
+            right,
+        }
+    } else {
+        let (left, right) = mirrored_sides(lay.falls, lay.height, x.top, x.bottom);
+        Rectangle {
+            top: x.left,
+            bottom: x.right,
+            left,
+            right,
+        }
     }
 }
 

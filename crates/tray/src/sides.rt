@@ -9,20 +9,14 @@ use placement::Placement;
 pub fn compact_width(lay: Layout) -> usize
     ensures { result ≡ compact_width lay }
 {
-    if lay.steep {
-        return lay.width;
-    }
-    lay.height
+    if lay.steep { lay.width } else { lay.height }
 }
 
 // How many rows the compact page has.
 pub fn compact_height(lay: Layout) -> usize
     ensures { result ≡ compact_height lay }
 {
-    if lay.steep {
-        return lay.height;
-    }
-    lay.width
+    if lay.steep { lay.height } else { lay.width }
 }
 
 // Where the compact page stands in its own tray: at the start, with nothing between its rows.
@@ -33,8 +27,8 @@ pub fn compact(lay: Layout) -> Placement
     let height = compact_height(lay);
     Placement {
         offset: 0,
-        width: width,
-        height: height,
+        width,
+        height,
         stride: width,
     }
 }

@@ -1,6 +1,7 @@
 -- The compact page: that it fits its tray, and what pages taken in and given out hold.
 -- Assumes nothing.
-use Rattle.std.proofs.Common.{◌≡◌, ℕ, ◌+◌, ◌-◌, ◌*◌, ◌<◌, ◌≤◌, Bool, true, false, List, length, get_or, sym, ap, ◌∙◌, subst, le_refl, mul_comm, arith}
+use Rattle.std.proofs.Common.{◌≡◌, ℕ, ◌+◌, ◌-◌, ◌*◌, ◌<◌, ◌≤◌, Bool, true, false, List, length, get_or, sym, ap, ◌∙◌}
+use Rattle.std.proofs.Common.{subst, le_refl, mul_comm, arith}
 use Rattle.geometry.specs.Drift.{mirrored}
 use Rattle.geometry.proofs.Laws.{mirrored_rising, mirrored_twice}
 use Rattle.placement.specs.Placement.{byte_of, pixel_in, longest_side, Placed}

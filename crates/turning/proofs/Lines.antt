@@ -1,6 +1,8 @@
 -- Rows that were handed out, and what is made of them.
 -- Assumes nothing.
-use Rattle.std.proofs.Common.{◌≡◌, ℕ, ◌+◌, ◌-◌, ◌*◌, ◌%◌, ◌^◌, ◌<◌, ◌≤◌, Bool, true, false, ◌⊎◌, List, length, get_or, take, drop, sym, refl, ap, ◌∙◌, subst, inl, inr, mod-eq_of_lt, arith, get_or-drop, get_or-take, ext_get_or}
+use Rattle.std.proofs.Common.{◌≡◌, ℕ, ◌+◌, ◌-◌, ◌*◌, ◌%◌, ◌^◌, ◌<◌, ◌≤◌, Bool, true, false, ◌⊎◌, List, length, get_or}
+use Rattle.std.proofs.Common.{take, drop, sym, refl, ap, ◌∙◌, subst, inl, inr, mod-eq_of_lt, arith, get_or-drop}
+use Rattle.std.proofs.Common.{get_or-take, ext_get_or}
 use mathlib.Core.Logic.{by_cases}
 use native.Mathlib.Nat.{add-mod_right}
 use native.Mathlib.Decide.{dec_lt}
@@ -16,11 +18,12 @@ use Rattle.turning.specs.Tiles.{Copied, Transposed}
 use Rattle.turning.specs.Pieces.{Right, Moved, Taken, Part, PutRows}
 use Rattle.turning.specs.Pieces.{copied_pixel, source_pixel, turned_pixel, row_step_of}
 use Rattle.tray.proofs.Lent.{part_length, lent_length, lent_below, lent_within, lent_above}
-use Rattle.turning.proofs.Pieces.{row_moved, part_none, join_down}
+use Rattle.turning.proofs.Pieces.{row_moved, join_down}
 
 module _ (tray line : List ℕ) (p : Placement) (r : ℕ) (is : line ≡ take p.width (drop (row_start p r) tray)) where
   pub line_length : Placed p (length tray) → r < p.height → length line ≡ p.width
-  line_length placed r_in = ap length is ∙ part_length (row_start p r) p.width tray (row_room p (length tray) r placed r_in)
+  line_length placed r_in =
+      ap length is ∙ part_length (row_start p r) p.width tray (row_room p (length tray) r placed r_in)
 
   pub line_pixel : (c : ℕ) → c < p.width → get_or line c 0 ≡ pixel_in tray p c r
   line_pixel c c_in = ap (λ (xs : List ℕ). get_or xs c 0) is ∙ row_pixel tray p c r c_in
@@ -39,14 +42,17 @@ module _ (tray line : List ℕ) (p : Placement) (r : ℕ) (is : line ≡ take p.
 
 -- a row that is taken mirrored lies in the tray
 pub mirrored_room :
-    (up : Bool) (p : Placement) (n m start : ℕ) → Placed p n → m < p.height → start ≡ row_start p (mirrored up p.height m)
+    (up : Bool) (p : Placement) (n m start : ℕ) → Placed p n → m < p.height
+    → start ≡ row_start p (mirrored up p.height m)
     → start + p.width ≤ n
-mirrored_room up p n m start placed m_in starts = omega (arith, row_room p n (mirrored up p.height m) placed (mirrored_below up p.height m m_in))
+mirrored_room up p n m start placed m_in starts =
+    omega (arith, row_room p n (mirrored up p.height m) placed (mirrored_below up p.height m m_in))
 
 -- a step on from a row's start, modulo 2^64, is the next one's
 step_on :
     (up : Bool) (p : Placement) (n m : ℕ) → Placed p n → n < 2 ^ 64 → m + 1 < p.height
-    → (row_start p (mirrored up p.height m) + row_step_of up p.stride) % 2 ^ 64 ≡ row_start p (mirrored up p.height (m + 1))
+    → (row_start p (mirrored up p.height m) + row_step_of up p.stride) % 2 ^ 64
+    ≡ row_start p (mirrored up p.height (m + 1))
 unfolding row_step_of
 step_on true p n m placed n-in m_in =
     let r = p.height - 1 - (m + 1) in
@@ -62,7 +68,8 @@ step_on true p n m placed n-in m_in =
 step_on false p n m placed n-in m_in =
     let here = ap (row_start p) (mirrored_rising p.height m) in
     let small : row_start p (m + 1) < 2 ^ 64 = omega (arith, row_room p n (m + 1) placed m_in) in
-    let on : row_start p (mirrored false p.height m) + p.stride ≡ row_start p (m + 1) = omega (arith, here, row_next p m) in
+    let on : row_start p (mirrored false p.height m) + p.stride ≡ row_start p (m + 1) =
+    omega (arith, here, row_next p m) in
     ap (λ (k : ℕ). k % 2 ^ 64) on ∙ mod-eq_of_lt small ∙ ap (row_start p) (sym (mirrored_rising p.height (m + 1)))
 
 pub stepped :
@@ -79,19 +86,20 @@ module _ (tray : List ℕ) (t : Turn) where
   -- the row that goes to the target's column b
   pub line_source :
       (line : List ℕ) (m b : ℕ) → line ≡ take t.source.width (drop (row_start t.source m) tray)
-      → m ≡ mirrored t.readup t.source.height b → (a : ℕ) → a < t.source.width → get_or line a 0 ≡ source_pixel tray t a b
+      → m ≡ mirrored t.readup t.source.height b → (a : ℕ) → a < t.source.width
+      → get_or line a 0 ≡ source_pixel tray t a b
   unfolding source_pixel
-  line_source line m b is mirror a a_in = line_pixel tray line t.source m is a a_in ∙ ap (pixel_in tray t.source a) mirror
+  line_source line m b is mirror a a_in =
+      line_pixel tray line t.source m is a a_in ∙ ap (pixel_in tray t.source a) mirror
 
   -- where the source's column a goes
-  pub turned_is : (a b : ℕ) → a < t.target.height → source_pixel tray t a b ≡ turned_pixel tray t b (mirrored t.writeup t.target.height a)
+  pub turned_is :
+      (a b : ℕ) → a < t.target.height
+      → source_pixel tray t a b ≡ turned_pixel tray t b (mirrored t.writeup t.target.height a)
   unfolding turned_pixel
   turned_is a b a_in = ap (λ (m : ℕ). source_pixel tray t m b) (sym (mirrored_twice t.writeup t.target.height a a_in))
 
   -- ---- a tile taken row by row
-
-  pub taken_none : (a b : ℕ) (tile : List ℕ) → length tile ≡ 256 → Taken 0 tray t a b tile
-  taken_none a b tile long = record { size = long; each = λ k l. absurd (omega arith) }
 
   -- the row that goes to the target's column b + n starts at start
   pub taken_more :
@@ -106,16 +114,19 @@ module _ (tray : List ℕ) (t : Turn) where
             (λ l. copied.below (16 * k + i) (omega arith) ∙ so_far.each k l i i-in)
             (λ g.
             let same : k ≡ n = omega arith in
-            subst (λ (j : ℕ). get_or after (16 * j + i) 0 ≡ source_pixel tray t (a + i) (b + j)) (sym same) (copied.each i i-in ∙ ap (λ (m : ℕ). get_or tray m 0) (omega arith)));
+            subst (λ (j : ℕ). get_or after (16 * j + i) 0 ≡ source_pixel tray t (a + i) (b + j)) (sym same)
+            (copied.each i i-in ∙ ap (λ (m : ℕ). get_or tray m 0) (omega arith)));
       }
 
   -- a tile taken, transposed and put in its place
   pub tile_part :
-      (a b : ℕ) (tile turned before after : List ℕ) → a + 16 ≤ t.target.height → Taken 16 tray t a b tile → Transposed tile turned
+      (a b : ℕ) (tile turned before after : List ℕ) → a + 16 ≤ t.target.height → Taken 16 tray t a b tile
+      → Transposed tile turned
       → PutRows 16 turned t a b before after → Part (turned_pixel tray t) t a (a + 16) b (b + 16) before after
   tile_part a b tile turned before after a_in taken flipped put =
       put.part (turned_pixel tray t)
-      (λ i i-in k k-in. flipped.turned i k i-in k-in ∙ taken.each k k-in i i-in ∙ turned_is (a + i) (b + k) (omega arith))
+      (λ i i-in k k-in.
+      flipped.turned i k i-in k-in ∙ taken.each k k-in i i-in ∙ turned_is (a + i) (b + k) (omega arith))
 
 -- ---- a tile put row by row
 
@@ -129,7 +140,8 @@ record PutRow (tile : List ℕ) (at : ℕ) (t : Turn) (a b : ℕ) (before after 
 
 -- sixteen bytes stored in a row, from its column b on
 module _
-    (tile : List ℕ) (t : Turn) (at a b : ℕ) (before after : List ℕ) (placed : Placed t.target (length before)) (a_in : a < t.target.height)
+    (tile : List ℕ) (t : Turn) (at a b : ℕ) (before after : List ℕ) (placed : Placed t.target (length before))
+    (a_in : a < t.target.height)
     (b-in : b + 16 ≤ t.target.width)
   where
     abbrev row : ℕ
@@ -174,9 +186,14 @@ module _
         stored c from to =
             let place : first + c ≡ first + b + (c - b) = omega arith in
             let column : b + (c - b) ≡ c = omega arith in
-            ap (λ (m : ℕ). get_or after m 0) place ∙ copied.each (c - b) (omega arith) ∙ all (c - b) (omega arith) ∙ ap (λ (m : ℕ). page m row) column
+            ap (λ (m : ℕ). get_or after m 0) place
+            ∙ copied.each (c - b) (omega arith)
+            ∙ all (c - b) (omega arith)
+            ∙ ap (λ (m : ℕ). page m row) column
 
-        each : (c : ℕ) → c < t.target.width → (get_or ys c 0 ≡ get_or before (byte_of t.target c row) 0) ⊎ (get_or ys c 0 ≡ page c row)
+        each :
+            (c : ℕ) → c < t.target.width
+            → (get_or ys c 0 ≡ get_or before (byte_of t.target c row) 0) ⊎ (get_or ys c 0 ≡ page c row)
         each c c_in =
             let byte = ap (λ (m : ℕ). get_or before m 0) (sym (byte_is t.target c row)) in
             by_cases (dec_lt c b) (λ l. inl (held c c_in ∙ copied.below (first + c) (omega arith) ∙ byte))
@@ -187,7 +204,8 @@ module _
         put_part =
             record {
               moved = subst (Moved t.target page before) back
-                  (row_moved t.target page before ys row placed (mirrored_below t.writeup t.target.height a a_in) long each);
+                  (row_moved t.target page before ys row placed (mirrored_below t.writeup t.target.height a a_in) long
+                  each);
               right = λ i from to k low high.
                   let same : a ≡ i = omega arith in
                   subst (λ (m : ℕ). Right t.target page after k (mirrored t.writeup t.target.height m)) same
@@ -198,16 +216,11 @@ module _
       put_row = record { size = copied.size; part = put_part }
 
 module _ (tile : List ℕ) (t : Turn) (a b : ℕ) where
-  pub put_none : (tray : List ℕ) → PutRows 0 tile t a b tray tray
-  put_none tray =
-      record {
-        size = refl;
-        part = λ page all. subst (λ (e : ℕ). Part page t a e b (b + 16) tray tray) (omega arith) (part_none t page a b (b + 16) tray);
-      }
-
   pub put_more :
-      (n start : ℕ) (before tray after : List ℕ) → Placed t.target (length before) → a + n < t.target.height → b + 16 ≤ t.target.width
-      → start ≡ row_start t.target (mirrored t.writeup t.target.height (a + n)) → Copied 16 tile (16 * n) (start + b) tray after
+      (n start : ℕ) (before tray after : List ℕ) → Placed t.target (length before) → a + n < t.target.height
+      → b + 16 ≤ t.target.width
+      → start ≡ row_start t.target (mirrored t.writeup t.target.height (a + n))
+      → Copied 16 tile (16 * n) (start + b) tray after
       → PutRows n tile t a b before tray → PutRows (n + 1) tile t a b before after
   put_more n start before tray after placed a_in b-in starts copied so_far =
       let placed' = subst (Placed t.target) (sym so_far.size) placed in

@@ -1,6 +1,8 @@
 -- A page written piece by piece, each piece through a row that is lent.
 -- Assumes nothing.
-use Rattle.std.proofs.Common.{◌≡◌, ℕ, ◌+◌, ◌-◌, ◌<◌, ◌≤◌, Bool, true, false, cond, ◌⊎◌, List, length, get_or, take, drop, set, sym, refl, ap, ◌∙◌, subst, inl, inr, ⊎_elim, true≢false, arith, length-set, get_or-drop, get_or-set_other, get_or-take, get_or-set_same, ext_get_or}
+use Rattle.std.proofs.Common.{◌≡◌, ℕ, ◌+◌, ◌-◌, ◌<◌, ◌≤◌, Bool, true, false, cond, ◌⊎◌, List, length, get_or, take}
+use Rattle.std.proofs.Common.{drop, set, sym, refl, ap, ◌∙◌, subst, inl, inr, ⊎_elim, true≢false, arith, length-set}
+use Rattle.std.proofs.Common.{get_or-drop, get_or-set_other, get_or-take, get_or-set_same, ext_get_or}
 use mathlib.Core.Logic.{by_cases}
 use native.Mathlib.Decide.{dec_lt}
 use borrow.Rule.Slice.PartMut.{put_mid}
@@ -11,16 +13,13 @@ use Rattle.turning.specs.declared.turn.Turn.{Turn}
 use Rattle.tray.specs.Written.{written}
 use Rattle.geometry.specs.Drift.{mirrored}
 use Rattle.geometry.proofs.Laws.{mirrored_below, mirrored_twice}
-use Rattle.turning.specs.Pieces.{Right, Moved, Turnable, Stored, Part}
+use Rattle.turning.specs.Pieces.{Right, Moved, Stored, Part}
 use Rattle.tray.specs.Laws.{length_written, written_at}
 use Rattle.tray.proofs.Lent.{lent_length, lent_below, lent_within, lent_above}
 
 -- ---- changes of a tray, one after the other
 
 module _ (p : Placement) (page : ℕ → ℕ → ℕ) where
-  pub moved_none : (tray : List ℕ) → Moved p page tray tray
-  moved_none tray = record { outside = refl; kept = λ c r c_in r_in h. h }
-
   pub moved_then : (a b d : List ℕ) → Moved p page a b → Moved p page b d → Moved p page a d
   moved_then a b d one two =
       record {
@@ -35,9 +34,12 @@ module _ (p : Placement) (page : ℕ → ℕ → ℕ) where
   pub moved_all :
       (before after : List ℕ) → Moved p page before after
       → ((r : ℕ) → r < p.height → (c : ℕ) → c < p.width → Right p page after c r) → after ≡ written p page before
-  moved_all before after m all = ext_get_or 0 after (written p page after) (sym (length_written p page after)) each ∙ m.outside
+  moved_all before after m all =
+      ext_get_or 0 after (written p page after) (sym (length_written p page after)) each ∙ m.outside
     where
-      same : (i : ℕ) (b : Bool) → inside p i ≡ b → cond b (page (column_of p i) (row_of p i)) (get_or after i 0) ≡ get_or after i 0
+      same :
+          (i : ℕ) (b : Bool) → inside p i ≡ b
+          → cond b (page (column_of p i) (row_of p i)) (get_or after i 0) ≡ get_or after i 0
       same i true h =
           let x = inside_pixel p i h in
           sym (all (row_of p i) x.row (column_of p i) x.column) ∙ ap (λ (k : ℕ). get_or after k 0) x.byte
@@ -49,7 +51,8 @@ module _ (p : Placement) (page : ℕ → ℕ → ℕ) where
 -- ---- one row
 
 module _
-    (q : Placement) (page : ℕ → ℕ → ℕ) (tray ys : List ℕ) (r : ℕ) (placed : Placed q (length tray)) (r_in : r < q.height)
+    (q : Placement) (page : ℕ → ℕ → ℕ) (tray ys : List ℕ) (r : ℕ) (placed : Placed q (length tray))
+    (r_in : r < q.height)
     (long : length ys ≡ q.width)
   where
     room : row_start q r + q.width ≤ length tray
@@ -63,7 +66,8 @@ module _
     below_row : (i : ℕ) → i < row_start q r → get_or (put_mid (row_start q r) q.width tray ys) i 0 ≡ get_or tray i 0
     below_row i l = lent_below (row_start q r) q.width tray ys room long i l
 
-    above_row : (i : ℕ) → row_start q r + q.width ≤ i → get_or (put_mid (row_start q r) q.width tray ys) i 0 ≡ get_or tray i 0
+    above_row :
+        (i : ℕ) → row_start q r + q.width ≤ i → get_or (put_mid (row_start q r) q.width tray ys) i 0 ≡ get_or tray i 0
     above_row i l = lent_above (row_start q r) q.width tray ys room long i l
 
     -- a byte that is not the page's is not the row's
@@ -88,7 +92,8 @@ module _
         (λ (l : row_start q r + q.width ≤ row_start q k). above_row (byte_of q c k) (omega (arith, byte_is q c k)))
         (rows_apart q (length tray) k r placed k-in r_in other)
 
-    pub row_right : (c : ℕ) → c < q.width → get_or ys c 0 ≡ page c r → Right q page (put_mid (row_start q r) q.width tray ys) c r
+    pub row_right :
+        (c : ℕ) → c < q.width → get_or ys c 0 ≡ page c r → Right q page (put_mid (row_start q r) q.width tray ys) c r
     row_right c c_in e = at_row c c_in ∙ e
 
     -- a row of which each byte is as it was, or right
@@ -97,7 +102,9 @@ module _
         → Moved q page tray (put_mid (row_start q r) q.width tray ys)
     row_moved each =
         record {
-          outside = ext_get_or 0 (written q page after) (written q page tray) (length_written q page after ∙ sized ∙ sym (length_written q page tray)) same;
+          outside =
+              ext_get_or 0 (written q page after) (written q page tray)
+              (length_written q page after ∙ sized ∙ sym (length_written q page tray)) same;
           kept = λ c k c_in k-in h.
               by_cases (dec_lt k r)
               (λ l. other_row c k c_in k-in (λ e. omega arith) ∙ h)
@@ -114,11 +121,14 @@ module _
 
         by_place :
             (i : ℕ) (b : Bool) → inside q i ≡ b
-            → cond b (page (column_of q i) (row_of q i)) (get_or after i 0) ≡ cond b (page (column_of q i) (row_of q i)) (get_or tray i 0)
+            → cond b (page (column_of q i) (row_of q i)) (get_or after i 0)
+            ≡ cond b (page (column_of q i) (row_of q i)) (get_or tray i 0)
         by_place i true h = refl
         by_place i false h = off_page i h
 
-        same : (i : ℕ) → i < length (written q page after) → get_or (written q page after) i 0 ≡ get_or (written q page tray) i 0
+        same :
+            (i : ℕ) → i < length (written q page after)
+            → get_or (written q page after) i 0 ≡ get_or (written q page tray) i 0
         same i l =
             let l_after : i < length after = omega (arith, length_written q page after) in
             let l_tray : i < length tray = omega (arith, sized) in
@@ -126,9 +136,11 @@ module _
 
         here : (c k : ℕ) → c < q.width → k ≡ r → Right q page tray c k → Right q page after c k
         here c k c_in e h =
-            let old : get_or tray (byte_of q c r) 0 ≡ page c r = subst (λ (m : ℕ). get_or tray (byte_of q c m) 0 ≡ page c m) e h in
+            let old : get_or tray (byte_of q c r) 0 ≡ page c r =
+            subst (λ (m : ℕ). get_or tray (byte_of q c m) 0 ≡ page c m) e h in
             subst (λ (m : ℕ). get_or after (byte_of q c m) 0 ≡ page c m) (sym e)
-            (at_row c c_in ∙ ⊎_elim (λ (was : get_or ys c 0 ≡ get_or tray (byte_of q c r) 0). was ∙ old) (λ is. is) (each c c_in))
+            (at_row c c_in
+            ∙ ⊎_elim (λ (was : get_or ys c 0 ≡ get_or tray (byte_of q c r) 0). was ∙ old) (λ is. is) (each c c_in))
 
 -- ---- whole rows, the first n
 
@@ -137,9 +149,6 @@ pub record Rows (q : Placement) (page : ℕ → ℕ → ℕ) (n : ℕ) (before a
   pub right : (r : ℕ) → r < n → (c : ℕ) → c < q.width → Right q page after c r
 
 module _ (q : Placement) (page : ℕ → ℕ → ℕ) where
-  pub rows_none : (tray : List ℕ) → Rows q page 0 tray tray
-  rows_none tray = record { moved = moved_none q page tray; right = λ r l. absurd (omega arith) }
-
   rows_next :
       (before tray ys : List ℕ) (r : ℕ) → Placed q (length tray) → r < q.height → length ys ≡ q.width
       → ((c : ℕ) → c < q.width → get_or ys c 0 ≡ page c r) → Rows q page r before tray
@@ -172,9 +181,6 @@ module _ (q : Placement) (page : ℕ → ℕ → ℕ) where
 
 -- ---- a part of a row of the target
 
-pub stored_none : (value : ℕ → ℕ) (b : ℕ) (row : List ℕ) → Stored value b b row row
-stored_none value b row = record { size = refl; each = λ k low high. absurd (omega arith); below = λ k l. refl; above = λ k l. refl }
-
 pub stored_more :
     (value : ℕ → ℕ) (b k v : ℕ) (before after : List ℕ) → k < length after → v ≡ value k → Stored value b k before after
     → b ≤ k → Stored value b (k + 1) before (set after k v)
@@ -192,24 +198,29 @@ stored_more value b k v before after room is s from =
     }
 
 pub stored_as :
-    (value other : ℕ → ℕ) (b e : ℕ) (before after : List ℕ) → ((k : ℕ) → b ≤ k → k < e → value k ≡ other k) → Stored value b e before after
+    (value other : ℕ → ℕ) (b e : ℕ) (before after : List ℕ) → ((k : ℕ) → b ≤ k → k < e → value k ≡ other k)
+    → Stored value b e before after
     → Stored other b e before after
 stored_as value other b e before after same s =
     record { size = s.size; each = λ k from to. s.each k from to ∙ same k from to; below = s.below; above = s.above }
 
 module _
-    (t : Turn) (page : ℕ → ℕ → ℕ) (a b e : ℕ) (before ys : List ℕ) (r : ℕ) (is : r ≡ mirrored t.writeup t.target.height a)
+    (t : Turn) (page : ℕ → ℕ → ℕ) (a b e : ℕ) (before ys : List ℕ) (r : ℕ)
+    (is : r ≡ mirrored t.writeup t.target.height a)
     (placed : Placed t.target (length before)) (a_in : a < t.target.height)
   where
     pub part_row :
-        Stored (λ (k : ℕ). page k r) b e (take t.target.width (drop (row_start t.target r) before)) ys → length ys ≡ t.target.width
-        → e ≤ t.target.width → Part page t a (a + 1) b e before (put_mid (row_start t.target r) t.target.width before ys)
+        Stored (λ (k : ℕ). page k r) b e (take t.target.width (drop (row_start t.target r) before)) ys
+        → length ys ≡ t.target.width
+        → e ≤ t.target.width
+        → Part page t a (a + 1) b e before (put_mid (row_start t.target r) t.target.width before ys)
     part_row s long e-in =
         record {
           moved = row_moved t.target page before ys r placed r_in long each;
           right = λ i from to k low high.
               let same : i ≡ a = omega arith in
-              let row : r ≡ mirrored t.writeup t.target.height i = is ∙ ap (mirrored t.writeup t.target.height) (sym same) in
+              let row : r ≡ mirrored t.writeup t.target.height i =
+              is ∙ ap (mirrored t.writeup t.target.height) (sym same) in
               subst (λ (m : ℕ). Right t.target page (put_mid (row_start t.target r) t.target.width before ys) k m) row
               (row_right t.target page before ys r placed r_in long k (omega arith) (s.each k low high));
         }
@@ -217,37 +228,39 @@ module _
         r_in : r < t.target.height
         r_in = subst (λ (m : ℕ). m < t.target.height) (sym is) (mirrored_below t.writeup t.target.height a a_in)
 
-        old : (c : ℕ) → c < t.target.width → get_or (take t.target.width (drop (row_start t.target r) before)) c 0 ≡ get_or before (byte_of t.target c r) 0
+        old :
+            (c : ℕ) → c < t.target.width
+            → get_or (take t.target.width (drop (row_start t.target r) before)) c 0
+            ≡ get_or before (byte_of t.target c r) 0
         old c c_in =
             get_or-take t.target.width (drop (row_start t.target r) before) c 0 c_in
             ∙ get_or-drop (row_start t.target r) before c 0
             ∙ ap (λ (m : ℕ). get_or before m 0) (sym (byte_is t.target c r))
 
-        each : (c : ℕ) → c < t.target.width → (get_or ys c 0 ≡ get_or before (byte_of t.target c r) 0) ⊎ (get_or ys c 0 ≡ page c r)
+        each :
+            (c : ℕ) → c < t.target.width
+            → (get_or ys c 0 ≡ get_or before (byte_of t.target c r) 0) ⊎ (get_or ys c 0 ≡ page c r)
         each c c_in =
             by_cases (dec_lt c b) (λ l. inl (s.below c l ∙ old c c_in))
-            (λ from. by_cases (dec_lt c e) (λ l. inr (s.each c (omega arith) l)) (λ past. inl (s.above c (omega arith) ∙ old c c_in)))
+            (λ from. by_cases (dec_lt c e) (λ l. inr (s.each c (omega arith) l))
+            (λ past. inl (s.above c (omega arith) ∙ old c c_in)))
 
     -- the row that was lent starts at at and is n long
     pub part_row_at :
-        (at n : ℕ) → at ≡ row_start t.target r → n ≡ t.target.width → Stored (λ (k : ℕ). page k r) b e (take n (drop at before)) ys
+        (at n : ℕ) → at ≡ row_start t.target r → n ≡ t.target.width
+        → Stored (λ (k : ℕ). page k r) b e (take n (drop at before)) ys
         → length ys ≡ t.target.width → e ≤ t.target.width → Part page t a (a + 1) b e before (put_mid at n before ys)
     part_row_at at n starts wide s long e-in =
         let s' : Stored (λ (k : ℕ). page k r) b e (take t.target.width (drop (row_start t.target r) before)) ys =
         subst (λ (k : ℕ). Stored (λ (j : ℕ). page j r) b e (take k (drop (row_start t.target r) before)) ys) wide
         (subst (λ (k : ℕ). Stored (λ (j : ℕ). page j r) b e (take n (drop k before)) ys) starts s) in
         subst (λ (k : ℕ). Part page t a (a + 1) b e before (put_mid k n before ys)) (sym starts)
-        (subst (λ (k : ℕ). Part page t a (a + 1) b e before (put_mid (row_start t.target r) k before ys)) (sym wide) (part_row s' long e-in))
+        (subst (λ (k : ℕ). Part page t a (a + 1) b e before (put_mid (row_start t.target r) k before ys)) (sym wide)
+        (part_row s' long e-in))
 
 -- ---- parts joined
 
 module _ (t : Turn) (page : ℕ → ℕ → ℕ) where
-  pub part_none : (a b f : ℕ) (tray : List ℕ) → Part page t a a b f tray tray
-  part_none a b f tray = record { moved = moved_none t.target page tray; right = λ i from to k low high. absurd (omega arith) }
-
-  pub part_empty : (a e b : ℕ) (tray : List ℕ) → Part page t a e b b tray tray
-  part_empty a e b tray = record { moved = moved_none t.target page tray; right = λ i from to k low high. absurd (omega arith) }
-
   pub part_end : (a e e' b f : ℕ) (x y : List ℕ) → e ≡ e' → Part page t a e b f x y → Part page t a e' b f x y
   part_end a e e' b f x y same p = subst (λ (q : ℕ). Part page t a q b f x y) same p
 
@@ -256,11 +269,13 @@ module _ (t : Turn) (page : ℕ → ℕ → ℕ) where
 
   module _ (x y z : List ℕ) where
     still_right :
-        (e f : ℕ) → e ≤ t.target.height → f ≤ t.target.width → Moved t.target page y z → (i : ℕ) → i < e → (k : ℕ) → k < f
+        (e f : ℕ) → e ≤ t.target.height → f ≤ t.target.width → Moved t.target page y z
+        → (i : ℕ) → i < e → (k : ℕ) → k < f
         → Right t.target page y k (mirrored t.writeup t.target.height i)
         → Right t.target page z k (mirrored t.writeup t.target.height i)
     still_right e f e-in f-in m i i-in k k-in h =
-        m.kept k (mirrored t.writeup t.target.height i) (omega arith) (mirrored_below t.writeup t.target.height i (omega arith)) h
+        m.kept k (mirrored t.writeup t.target.height i) (omega arith)
+        (mirrored_below t.writeup t.target.height i (omega arith)) h
 
     pub join_down :
         (a e g b f : ℕ) → e ≤ t.target.height → f ≤ t.target.width → Part page t a e b f x y → Part page t e g b f y z
@@ -296,7 +311,3 @@ module _ (t : Turn) (page : ℕ → ℕ → ℕ) where
       let i = mirrored t.writeup t.target.height r in
       subst (λ (m : ℕ). Right t.target page after c m) (mirrored_twice t.writeup t.target.height r r_in)
       (p.right i (omega arith) (mirrored_below t.writeup t.target.height r r_in) c (omega arith) c_in))
-
--- the target's tray keeps its length
-pub turnable_still : (t : Turn) (n m k : ℕ) → k ≡ m → Turnable t n m → Turnable t n k
-turnable_still t n m k e h = subst (λ (j : ℕ). Turnable t n j) (sym e) h

@@ -1,13 +1,12 @@
 -- Tiles copied and shuffled byte by byte, and what four shuffles make of a tile.
 -- Assumes nothing.
-use Rattle.std.proofs.Common.{◌≡◌, ℕ, zero, suc, ◌+◌, ◌*◌, ◌/◌, ◌%◌, ◌<◌, Bool, true, ◌&&◌, eqb, List, length, get_or, set, refl, ap, ◌∙◌, ⊎_elim, le_of_suc-le-suc, eq-or-lt_of_le, arith, length-set, get_or-set_other, get_or-set_same, below_more, eqb-true}
+use Rattle.std.proofs.Common.{◌≡◌, ℕ, zero, suc, ◌+◌, ◌*◌, ◌/◌, ◌%◌, ◌<◌, Bool, true, ◌&&◌, eqb, List, length, get_or}
+use Rattle.std.proofs.Common.{set, refl, ap, ◌∙◌, ⊎_elim, le_of_suc-le-suc, eq-or-lt_of_le, arith, length-set}
+use Rattle.std.proofs.Common.{get_or-set_other, get_or-set_same, below_more, eqb-true}
 use mathlib.Core.Bool.{and-eq-true_iff}
 use mathlib.Core.Logic.{by_cases}
 use native.Mathlib.Decide.{dec_lt}
 use Rattle.turning.specs.Tiles.{Copied, Shuffled, Transposed}
-
-pub copied_none : (from : List ℕ) (a b : ℕ) (tray : List ℕ) → Copied 0 from a b tray tray
-copied_none from a b tray = record { size = refl; each = λ i l. absurd (omega arith); below = λ i l. refl; above = λ i l. refl }
 
 pub copied_more :
     (n : ℕ) (from : List ℕ) (a b : ℕ) (before after : List ℕ) → b + n < length after → Copied n from a b before after
@@ -20,15 +19,14 @@ copied_more n from a b before after room so_far =
           (λ k l. get_or-set_other after (b + n) (b + k) (get_or from (a + n) 0) 0 (λ e. omega arith) ∙ so_far.each k l)
           (get_or-set_same after (b + n) (get_or from (a + n) 0) 0 room);
       below = λ i l. get_or-set_other after (b + n) i (get_or from (a + n) 0) 0 (λ e. omega arith) ∙ so_far.below i l;
-      above = λ i l. get_or-set_other after (b + n) i (get_or from (a + n) 0) 0 (λ e. omega arith) ∙ so_far.above i (omega arith);
+      above = λ i l.
+          get_or-set_other after (b + n) i (get_or from (a + n) 0) 0 (λ e. omega arith) ∙ so_far.above i (omega arith);
     }
-
-pub shuffled_none : (x y : List ℕ) → length y ≡ 256 → Shuffled 0 x y
-shuffled_none x y long = record { size = long; even = λ i l. absurd (omega arith); odd = λ i l. absurd (omega arith) }
 
 module _ (n : ℕ) (x y : List ℕ) (v w : ℕ) where
   pub shuffled_more :
-      n < 128 → v ≡ get_or x n 0 → w ≡ get_or x (128 + n) 0 → Shuffled n x y → Shuffled (n + 1) x (set (set y (2 * n) v) (2 * n + 1) w)
+      n < 128 → v ≡ get_or x n 0 → w ≡ get_or x (128 + n) 0 → Shuffled n x y
+      → Shuffled (n + 1) x (set (set y (2 * n) v) (2 * n + 1) w)
   shuffled_more l ev ew so_far =
       let long : length y ≡ 256 = so_far.size in
       let once : length (set y (2 * n) v) ≡ 256 = length-set y (2 * n) v ∙ long in
@@ -37,14 +35,18 @@ module _ (n : ℕ) (x y : List ℕ) (v w : ℕ) where
         even =
             below_more (λ (k : ℕ). get_or (set (set y (2 * n) v) (2 * n + 1) w) (2 * k) 0 ≡ get_or x k 0) n
             (λ k k-in. apart (2 * k) (λ e. omega arith) (λ e. omega arith) ∙ so_far.even k k-in)
-            (get_or-set_other (set y (2 * n) v) (2 * n + 1) (2 * n) w 0 (λ e. omega arith) ∙ get_or-set_same y (2 * n) v 0 (omega arith) ∙ ev);
+            (get_or-set_other (set y (2 * n) v) (2 * n + 1) (2 * n) w 0 (λ e. omega arith)
+            ∙ get_or-set_same y (2 * n) v 0 (omega arith)
+            ∙ ev);
         odd =
             below_more (λ (k : ℕ). get_or (set (set y (2 * n) v) (2 * n + 1) w) (2 * k + 1) 0 ≡ get_or x (128 + k) 0) n
             (λ k k-in. apart (2 * k + 1) (λ e. omega arith) (λ e. omega arith) ∙ so_far.odd k k-in)
             (get_or-set_same (set y (2 * n) v) (2 * n + 1) w 0 (omega arith) ∙ ew);
       }
     where
-      apart : (k : ℕ) → (k ≡ 2 * n → ⊥) → (k ≡ 2 * n + 1 → ⊥) → get_or (set (set y (2 * n) v) (2 * n + 1) w) k 0 ≡ get_or y k 0
+      apart :
+          (k : ℕ) → (k ≡ 2 * n → ⊥) → (k ≡ 2 * n + 1 → ⊥)
+          → get_or (set (set y (2 * n) v) (2 * n + 1) w) k 0 ≡ get_or y k 0
       apart k p q = get_or-set_other (set y (2 * n) v) (2 * n + 1) k w 0 q ∙ get_or-set_other y (2 * n) k v 0 p
 
 -- where a shuffle takes the byte of a place from: the place's last bit becomes its first

@@ -13,11 +13,13 @@ use crate::tile::{SIDE, copy_side, transpose};
 use geometry::normal::mirrored;
 use placement::Placement;
 use placement::place::row_start;
-use std::num::wrapping_add_usize;
 use tray::Layout;
 use tray::row::{fill_row, row, row_from};
 use tray::sides::compact;
 
+// Stays: beside a Turn the tray that is read and the one that is written are parameters, with `Turnable` of their
+// lengths in the contracts: the second is lent on by `&mut`, part by part, which no struct that is copied can hold.
+//
 // A page and its transposed page. Where readup is true the source's rows are taken from the last one up, and where
 // writeup is true the target's rows are filled from the last one up.
 #[derive(Clone, Copy)]
@@ -35,13 +37,11 @@ fn copy_rows(from: &[u8], p: Placement, falls: bool, to: &mut [u8], q: Placement
     requires alike { Alike p q }
     ensures { to.new ≡ written q (copied_pixel from.now p falls) to.old }
 {
-    let mut r: usize = 0;
-    while r < q.height {
+    for r in 0..q.height {
         let line = row(from, p, r);
         let at = row_start(q, r);
         let end = at + q.width;
         fill_row(line, falls, &mut to[at..end]);
-        r += 1;
     }
 }
 
@@ -52,11 +52,9 @@ fn gather(from: &[u8], t: Turn, a: usize, part: &mut [u8], b: usize, e: usize)
     ensures { Stored (source_pixel from.now t a) b e part.old part.new }
 {
     let p = t.source;
-    let mut k = b;
-    while k < e {
+    for k in b..e {
         let line = row(from, p, mirrored(t.readup, p.height, k));
         part[k] = line[a];
-        k += 1;
     }
 }
 
@@ -79,10 +77,8 @@ fn turn_rows(from: &[u8], t: Turn, to: &mut [u8], a: usize, e: usize, b: usize)
     ensures { TurnedPart from.now t a e b t.target.width to.old to.new }
 {
     let width = t.target.width;
-    let mut i = a;
-    while i < e {
+    for i in a..e {
         turn_row(from, t, to, i, b, width);
-        i += 1;
     }
 }
 
@@ -93,10 +89,7 @@ fn row_step(up: bool, stride: usize) -> usize
     requires { 1 ≤ stride }
     ensures { result ≡ row_step_of up stride }
 {
-    if up {
-        return usize::MAX - stride + 1;
-    }
-    stride
+    if up { stride.wrapping_neg() } else { stride }
 }
 
 // Sixteen rows of the source, sixteen columns of each, are read into a tile.
@@ -107,12 +100,10 @@ fn take_tile(from: &[u8], t: Turn, a: usize, b: usize, tile: &mut [u8])
 {
     let p = t.source;
     let mut start = row_start(p, mirrored(t.readup, p.height, b));
-    let mut k: usize = 0;
-    while k < SIDE {
+    for k in 0..SIDE {
         let line = row_from(from, start, p.width);
         copy_side(line, a, tile, SIDE * k);
-        start = wrapping_add_usize(start, row_step(t.readup, p.stride));
-        k += 1;
+        start = start.wrapping_add(row_step(t.readup, p.stride));
     }
 }
 
@@ -133,11 +124,9 @@ fn put_tile(tile: &[u8], t: Turn, to: &mut [u8], a: usize, b: usize)
 {
     let q = t.target;
     let mut start = row_start(q, mirrored(t.writeup, q.height, a));
-    let mut i: usize = 0;
-    while i < SIDE {
+    for i in 0..SIDE {
         put_row(tile, SIDE * i, to, start, q.width, b);
-        start = wrapping_add_usize(start, row_step(t.writeup, q.stride));
-        i += 1;
+        start = start.wrapping_add(row_step(t.writeup, q.stride));
     }
 }
 
@@ -147,8 +136,8 @@ fn turn_tile(from: &[u8], t: Turn, to: &mut [u8], a: usize, b: usize)
     requires a_bound { (a + 16 ≤ t.target.height) × (b + 16 ≤ t.target.width) }
     ensures { TurnedPart from.now t a (a + 16) b (b + 16) to.old to.new }
 {
-    let mut tile = [0u8; 256];
-    let mut spare = [0u8; 256];
+    let mut tile = [0u8; SIDE * SIDE];
+    let mut spare = [0u8; SIDE * SIDE];
     take_tile(from, t, a, b, &mut tile);
     transpose(&mut tile, &mut spare);
     put_tile(&tile, t, to, a, b);
@@ -161,10 +150,8 @@ fn turn_tiles(from: &[u8], t: Turn, to: &mut [u8], a: usize, n: usize, b: usize)
     requires n_bound { (a + 16 * n ≤ t.target.height) × (b + 16 ≤ t.target.width) }
     ensures { TurnedPart from.now t a (a + 16 * n) b (b + 16) to.old to.new }
 {
-    let mut i: usize = 0;
-    while i < n {
+    for i in 0..n {
         turn_tile(from, t, to, a + SIDE * i, b);
-        i += 1;
     }
 }
 
@@ -175,13 +162,11 @@ fn turn_band(from: &[u8], t: Turn, to: &mut [u8], a: usize, n: usize)
     requires n_bound { a + 16 * n ≤ t.target.height }
     ensures { TurnedRows from.now t a (a + 16 * n) to.old to.new }
 {
-    let width = t.target.width;
-    let mut b: usize = 0;
-    while SIDE <= width - b {
-        turn_tiles(from, t, to, a, n, b);
-        b += SIDE;
+    let down = t.target.width / SIDE;
+    for i in 0..down {
+        turn_tiles(from, t, to, a, n, SIDE * i);
     }
-    turn_rows(from, t, to, a, a + SIDE * n, b);
+    turn_rows(from, t, to, a, a + SIDE * n, SIDE * down);
 }
 
 // How many tiles side by side a band has at most, on a page of so many rows. With more of them more of a row is read at
@@ -197,14 +182,12 @@ fn tiles_across(rows: usize, left: usize) -> usize
     requires { 16 ≤ left }
     ensures { (1 ≤ result) × (16 * result ≤ left) }
 {
-    let most = most_across(rows);
-    if left < most * SIDE {
-        return left / SIDE;
-    }
-    most
+    most_across(rows).min(left / SIDE)
 }
 
 // The target's rows in bands, as far as tiles go. It answers how many rows are filled.
+// Stays: a range would count the bands by `div_ceil`, and work out from the count, by a product and a `min`, where each
+// begins and how many tiles it has; `a` says both.
 fn turn_bands(from: &[u8], t: Turn, to: &mut [u8]) -> usize
     requires { Turnable t (length from.now) (length to.old) }
     ensures most { result ≤ t.target.height }

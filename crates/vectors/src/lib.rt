@@ -2,22 +2,21 @@
 // specs/Vector.
 #![tactic(auto)]
 
-ghost use Rattle.std.specs.Prelude.{◌≡◌, ◌<◌, ◌^◌, nat_abs};
+ghost use Rattle.std.specs.Prelude.{◌≡◌, nat_abs};
 ghost use Rattle.vectors.specs.Vector.{shallow, steep, major_of, minor_of};
 
-// The size of a number, whichever its sign. The least number of all has none, so it is left out.
+// The size of a number, whichever its sign.
 pub fn size(z: i64) -> usize
-    requires { nat_abs z < 2 ^ 63 }
     ensures { result ≡ nat_abs z }
 {
-    if z < 0 { (0 - z) as usize } else { z as usize }
+    z.unsigned_abs() as usize
 }
 
 // A component, at the width that the lines are computed with.
 pub fn wide(z: i32) -> i64
     ensures { result ≡ z }
 {
-    z as i64
+    i64::from(z)
 }
 
 // The size of a component.
@@ -28,28 +27,23 @@ pub fn component_size(z: i32) -> usize
 }
 
 // Whether a vector is shallow: its columns go forward, and its rows by no more.
+#[tactic(auto, unfolding(crate::specs::Vector::shallow))]
 pub fn is_shallow(dx: i32, dy: i32) -> bool
     ensures { result ≡ shallow dx dy }
 {
-    if dx < 1 {
-        false
-    } else {
-        component_size(dy) <= component_size(dx)
-    }
+    1 <= dx && component_size(dy) <= component_size(dx)
 }
 
 // Whether a vector is steep: its rows go forward, and its columns by less.
+#[tactic(auto, unfolding(crate::specs::Vector::steep))]
 pub fn is_steep(dx: i32, dy: i32) -> bool
     ensures { result ≡ steep dx dy }
 {
-    if dy < 1 {
-        false
-    } else {
-        component_size(dx) < component_size(dy)
-    }
+    1 <= dy && component_size(dx) < component_size(dy)
 }
 
 // How far a vector goes along its major axis.
+#[tactic(auto, unfolding(crate::specs::Vector::major_of))]
 pub fn major_of(dx: i32, dy: i32) -> usize
     ensures { result ≡ major_of dx dy }
 {
@@ -61,6 +55,7 @@ pub fn major_of(dx: i32, dy: i32) -> usize
 }
 
 // How far a vector goes along its minor axis, below zero where its lines fall.
+#[tactic(auto, unfolding(crate::specs::Vector::minor_of))]
 pub fn minor_of(dx: i32, dy: i32) -> i64
     ensures { result ≡ minor_of dx dy }
 {

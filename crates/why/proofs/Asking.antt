@@ -1,20 +1,20 @@
 -- What is told of a pixel, by the reading of the ticket and the judging of the job. Assumes nothing.
-use mathlib.Core.Path.{◌≡◌, sym, ap, ap₂, ◌∙◌}
-use mathlib.Core.Bool.{true, false, and-eq-true_iff}
+use mathlib.Core.Path.{◌≡◌, refl, sym, ap, ap₂, ◌∙◌}
+use mathlib.Core.Bool.{true, and-eq-true_iff}
 use mathlib.Core.List.{List}
 use Prim.Native.Nat.{ℕ}
 use borrow.Author.Tests.{ltb-true}
 use lib.Dec.{ltb}
 use lib.ListN.{length}
-use Rattle.refusal.specs.Answer.{is_done}
-use Rattle.refusal.specs.Chain.{◌then◌, then_on, then_stop, then_done, unless_done, when_done_lem, when_refused}
-use Rattle.refusal.specs.declared.Answer.{Answer}
+use Rattle.std.specs.Prelude.{Result, Ok, Err}
+use Rattle.refusal.specs.Answer.{Answer, is_done, giving}
+use Rattle.refusal.specs.Chain.{◌then◌, then_on, then_err, then_ok, unless_done, giving_on, giving_err, ok_done}
 use Rattle.refusal.specs.declared.Later.TheVariants.{PixelOffPage}
 use Rattle.refusal.specs.declared.Refusal.TheVariants.{Later}
+use Rattle.refusal.specs.declared.Refused.{Refused}
 use Rattle.ticket.specs.Judging.{judged}
-use Rattle.ticket.specs.Laws.{Bytes, reading_good, read_allowed}
+use Rattle.ticket.specs.Laws.{Bytes, read_good, read_refused, read_allowed}
 use Rattle.ticket.specs.Reading.{shown, reading}
-use Rattle.ticket.specs.declared.Reading.{Reading}
 use Rattle.ticket.specs.declared.Ticket.{Ticket}
 use Rattle.placement.specs.Placement.{source_page}
 use Rattle.placement.specs.declared.Placement.{Placement}
@@ -22,85 +22,85 @@ use Rattle.placement.specs.declared.Placements.{Placements}
 use Rattle.judging.specs.Judging.{judge_places}
 use Rattle.judging.specs.Laws.{stands}
 use Rattle.nearby.specs.declared.Pixel.{Pixel}
-use Rattle.why.specs.Reason.{no_reason, reason_of}
+use Rattle.why.specs.Reason.{reason_of}
 use Rattle.why.specs.Told.{judge_pixel, why_answer, lengths_of, told}
 use Rattle.why.specs.Promises.{Asked}
 use Rattle.why.specs.declared.Reason.{Reason}
-use Rattle.why.specs.declared.Told.{Told}
 
 module _ (ticket : List ℕ) (p : Placements) (source : List ℕ) (output scratch : ℕ) (at : Pixel) where
-  -- what is answered, and nothing is named where it is a refusal
-  refused_as : (a : Answer) (given : Told) → a ≡ why_answer ticket p (lengths_of source output scratch) at
-      → is_done a ≡ false → given ≡ record { answer = a; reason = no_reason }
+  -- what refuses the whole is told
+  refused_as : {refused : Refused} {given : Result Reason Refused}
+      → why_answer ticket p (lengths_of source output scratch) at ≡ Err refused
+      → given ≡ Err refused
       → given ≡ told ticket p source output scratch at
   unfolding told
-  refused_as a given is refused given_is =
+  refused_as whole given_is =
       given_is
-      ∙ ap₂ {C = Told} (λ (x : Answer) (y : Reason). record { answer = x; reason = y }) is
-      (sym (when_refused _ _ no_reason (ap is_done (sym is) ∙ refused)))
+      ∙ sym
+      (ap (λ (a : Answer). giving a (reason_of (shown ticket) (source_page p) source at)) whole ∙ giving_err _ _)
 
-  module _ (r : Reading) (read : r ≡ reading ticket) where
-    read_answer : r.answer ≡ judged ticket
-    unfolding reading
-    read_answer = ap (λ (q : Reading). q.answer) read
+  -- the ticket is refused
+  pub ticket_refused : {refused : Refused} {given : Result Reason Refused} → reading ticket ≡ Err refused
+      → given ≡ Err refused
+      → given ≡ told ticket p source output scratch at
+  unfolding why_answer
+  ticket_refused {refused} is = refused_as (rw (read_refused ticket refused is, then_err) refl)
 
-    -- the ticket is refused
-    pub ticket_refused : (given : Told) → is_done r.answer ≡ false
-        → given ≡ record { answer = r.answer; reason = no_reason } → given ≡ told ticket p source output scratch at
+  module _ {t : Ticket} (is : reading ticket ≡ Ok t) where
+    good : (is_done (judged ticket) ≡ true) × (shown ticket ≡ t)
+    good = read_good ticket t is
+
+    behind :
+        why_answer ticket p (lengths_of source output scratch) at
+        ≡ (judge_places t p (lengths_of source output scratch) then judge_pixel p at)
     unfolding why_answer
-    ticket_refused given refused given_is =
-        refused_as r.answer given
-        (read_answer ∙ sym (then_stop (judged ticket) _ (ap is_done (sym read_answer) ∙ refused)))
-        refused
-        given_is
+    behind =
+        then_on (judged ticket) _ good.0
+        ∙ ap (λ (q : Ticket). judge_places q p (lengths_of source output scratch) then judge_pixel p at) good.1
 
-    module _ (done : is_done r.answer ≡ true) where
-      good : is_done (judged ticket) ≡ true
-      good = ap is_done (sym read_answer) ∙ done
+    module _ {places : Answer} (places_is : places ≡ judge_places t p (lengths_of source output scratch)) where
+      -- the job is
+      pub job_refused : {refused : Refused} {given : Result Reason Refused} → places ≡ Err refused
+          → given ≡ Err refused
+          → given ≡ told ticket p source output scratch at
+      job_refused was =
+          refused_as (behind ∙ ap (λ (a : Answer). a then judge_pixel p at) (sym places_is ∙ was) ∙ then_err _ _)
 
-      read_ticket : r.ticket ≡ shown ticket
-      read_ticket = ap (λ (q : Reading). q.ticket) read ∙ reading_good ticket good
+      module _ {work : ℕ} (placed : places ≡ Ok work) where
+        passed : why_answer ticket p (lengths_of source output scratch) at ≡ judge_pixel p at
+        passed = behind ∙ ap (λ (a : Answer). a then judge_pixel p at) (sym places_is ∙ placed) ∙ then_ok work _
 
-      module _ (places pixel a : Answer)
-          (places_is : places ≡ judge_places r.ticket p (lengths_of source output scratch))
-          (pixel_is : pixel ≡ judge_pixel p at) (a-is : a ≡ (places then pixel)) where
-        both : a ≡ (judge_places r.ticket p (lengths_of source output scratch) then judge_pixel p at)
-        both = a-is ∙ ap₂ ◌then◌ places_is pixel_is
+        module _ {pixel : Answer} (pixel_is : pixel ≡ judge_pixel p at) where
+          -- the pixel is
+          pub pixel_refused : {refused : Refused} {given : Result Reason Refused} → pixel ≡ Err refused
+              → given ≡ Err refused
+              → given ≡ told ticket p source output scratch at
+          pixel_refused was = refused_as (passed ∙ sym pixel_is ∙ was)
 
-        answered : a ≡ why_answer ticket p (lengths_of source output scratch) at
-        unfolding why_answer
-        answered =
-            both
-            ∙ ap (λ (t : Ticket). judge_places t p (lengths_of source output scratch) then judge_pixel p at) read_ticket
-            ∙ sym (then_on (judged ticket) _ good)
-
-        -- the job or the pixel is refused
-        pub job_refused : (given : Told) → is_done a ≡ false → given ≡ record { answer = a; reason = no_reason }
-            → given ≡ told ticket p source output scratch at
-        job_refused given refused given_is = refused_as a given answered refused given_is
-
-        module _ (all : is_done a ≡ true) (from : Placement) (from_is : from ≡ source_page p) where
           -- nothing is refused: the pixel is one of the page, and the page stands in its tray
-          pub asked : Bytes ticket → Asked r.ticket from (length source) at
-          unfolding judge_pixel source_page
-          asked bytes =
-              let parts = then_done _ _ (ap is_done (sym both) ∙ all) in
-              let sides =
-              (and-eq-true_iff (ltb at.column p.width) (ltb at.row p.height)).0
-              (unless_done _ (Later PixelOffPage) 0 parts.1) in
-              rw from_is
-              (record {
-                ticket = read_allowed ticket r bytes read done;
-                placed = (stands r.ticket p (lengths_of source output scratch) parts.0).from;
-                column_in = ltb-true _ _ sides.0;
-                row_in = ltb-true _ _ sides.1;
-              })
+          module _ {none : ℕ} (on : pixel ≡ Ok none) {from : Placement} (from_is : from ≡ source_page p) where
+            pub asked : Bytes ticket → Asked t from (length source) at
+            unfolding judge_pixel source_page
+            asked bytes =
+                let sides =
+                (and-eq-true_iff (ltb at.column p.width) (ltb at.row p.height)).0
+                (unless_done _ (Later PixelOffPage) 0 (ap is_done (sym pixel_is ∙ on) ∙ ok_done none)) in
+                let stand =
+                stands t p (lengths_of source output scratch) (ap is_done (sym places_is ∙ placed) ∙ ok_done work) in
+                rw from_is
+                (record {
+                  ticket = read_allowed ticket t bytes is;
+                  placed = stand.from;
+                  column_in = ltb-true _ _ sides.0;
+                  row_in = ltb-true _ _ sides.1;
+                })
 
-          pub reason_told : (reason : Reason) → reason ≡ reason_of r.ticket from source at
-              → ◌≡◌ {A = Told} (record { answer = a; reason = reason }) (told ticket p source output scratch at)
-          unfolding told
-          reason_told reason is =
-              ap₂ {C = Told} (λ (x : Answer) (y : Reason). record { answer = x; reason = y }) answered
-              (is
-              ∙ ap₂ (λ (t : Ticket) (q : Placement). reason_of t q source at) read_ticket from_is
-              ∙ sym (when_done_lem _ _ no_reason (ap is_done (sym answered) ∙ all)))
+            pub reason_told : {reason : Reason} → reason ≡ reason_of t from source at
+                → ◌≡◌ {A = Result Reason Refused} (Ok reason) (told ticket p source output scratch at)
+            unfolding told
+            reason_told reason_is =
+                let whole : Answer = why_answer ticket p (lengths_of source output scratch) at in
+                let done : is_done whole ≡ true = ap is_done (passed ∙ sym pixel_is ∙ on) ∙ ok_done none in
+                ap Ok
+                (reason_is ∙ ap₂ (λ (q : Ticket) (r : Placement). reason_of q r source at) (sym good.1) from_is)
+                ∙ sym (giving_on whole (reason_of (shown ticket) (source_page p) source at) done)

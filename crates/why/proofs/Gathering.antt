@@ -3,13 +3,13 @@
 use mathlib.Core.Path.{◌≡◌, ap, ◌∙◌}
 use mathlib.Core.Bool.{false}
 use mathlib.Core.List.{List}
+use Rattle.std.specs.Prelude.{Option}
 use Prim.Native.Nat.{ℕ, suc, ◌+◌, ◌-◌, ◌≤◌}
 use native.Mathlib.Omega.{arith}
 use lib.ListN.{length}
 use Rattle.geometry.specs.Drift as lines
 use Rattle.geometry.specs.Tables.{ProfileTable}
 use Rattle.geometry.specs.declared.Line.{Line}
-use Rattle.ticket.specs.Laws.{Bytes}
 use Rattle.ticket.specs.declared.Ticket.{Ticket}
 use Rattle.boxes.specs.Boxes.{hidden, boxes_of}
 use Rattle.placement.specs.declared.Placement.{Placement}
@@ -53,12 +53,11 @@ module _ (t : Ticket) (p : Placement) (tray : List ℕ) (at : Pixel) (asked : As
     tabled profile long table =
         record { tabled = rw s-is table; room = omega (arith, stands.high_near) }
 
-    module _ (row : List ℕ) (places : suc (length row) ≡ t.length + t.length) where
+    module _ (row : List (Option ℕ)) (places : suc (length row) ≡ t.length + t.length) where
       pub short : length row ≤ 16383
       short = omega (arith, asked.ticket.length_to)
 
-      module _ (bytes : Bytes tray) (shows : hidden (boxes_of t) at.column at.row ≡ false)
-          (filled : RowNear t s p tray row) where
+      module _ (shows : hidden (boxes_of t) at.column at.row ≡ false) (filled : RowNear t s p tray row) where
         near : RowNear t (standing_of (line_of t) (t.length - 1) p.width p.height at) p tray row
         near = rw own at filled
 
@@ -68,13 +67,13 @@ module _ (t : Ticket) (p : Placement) (tray : List ℕ) (at : Pixel) (asked : As
               ticket = asked.ticket;
               stands = stands;
               tabled = tabled profile long table;
-              fits = row_fits t p tray at asked bytes shows row near places;
+              fits = row_fits t p tray at asked shows row near places;
               short = short;
-              result = row_result t p tray at asked bytes shows row near places;
+              result = row_result t p tray at asked shows row near places;
             }
 
         pub tells : (told : Reason) → told ≡ reason_in t s row → told ≡ by_steps t p tray at
         tells told is =
             is
             ∙ ap (λ (x : Standing). reason_in t x row) own
-            ∙ row_tells t p tray at asked bytes shows row near places
+            ∙ row_tells t p tray at asked shows row near places

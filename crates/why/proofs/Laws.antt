@@ -1,17 +1,16 @@
 -- What others may use of a question, with its definitions left shut: when it is answered, what is told, and which of
 -- the reasons. What the named steps are stands in Named.
 -- Assumes nothing.
-use Rattle.std.specs.Prelude.{◌≡◌, true, false, ◌&&◌, ◌⊎◌, List, ℕ, ◌≤◌, ◌<◌}
+use Rattle.std.specs.Prelude.{◌≡◌, true, false, ◌&&◌, ◌⊎◌, List, ℕ, ◌≤◌, ◌<◌, Err, Ok}
 use Rattle.std.proofs.Math.Path.{refl, ap}
 use Rattle.std.proofs.Common.{◌∙◌}
 use Rattle.std.proofs.Math.Bool.{Bool, cond, and-false, and-eq-true_iff}
 use Rattle.std.proofs.Math.Logic.{⊎_elim}
 use borrow.Author.Tests.{lt-ltb, le-ltb, ltb-true}
 use Rattle.std.proofs.Math.Dec.{ltb}
-use Rattle.refusal.specs.Answer.{is_done}
-use Rattle.refusal.specs.Chain.{unless, ◌then◌, then_on, then_done, unless_done, when_done_lem, when_refused}
-use Rattle.refusal.specs.declared.Answer.{Answer}
-use Rattle.refusal.specs.declared.Answer.TheVariants.{Done, Refused}
+use Rattle.refusal.specs.Answer.{is_done, Answer, done_with, refused_at, giving, answer_in}
+use Rattle.refusal.specs.Chain.{unless, ◌then◌, then_on, then_done, unless_done, giving_on, giving_stop, giving_err, given_answer}
+use Rattle.refusal.specs.Chain.{unless_no_work, then_no_work}
 use Rattle.refusal.specs.declared.Later.TheVariants.{PixelOffPage}
 use Rattle.refusal.specs.declared.Refusal.{Refusal}
 use Rattle.refusal.specs.declared.Refusal.TheVariants.{Later}
@@ -30,27 +29,27 @@ use Rattle.job.specs.Job.{answer, job_work}
 use Rattle.job.specs.Laws.{finished_job}
 use Rattle.nearby.specs.declared.Pixel.{Pixel}
 use Rattle.why.specs.Reason.{hidden_box, without_steps, no_reason, by_box, by_steps, reason_of}
-use Rattle.why.specs.Told.{judge_pixel, why_answer, lengths_of, told}
+use Rattle.why.specs.Told.{judge_pixel, why_answer, lengths_of, told, reason_told}
 
 -- ---- the answer
 
 chained_refused :
-    (a b c : Answer) (work : ℕ) (refusal : Refusal) (place : ℕ) → (a then b then Done work) ≡ Refused refusal place
-    → (a then b then c) ≡ Refused refusal place
+    (a b c : Answer) (work : ℕ) (refusal : Refusal) (place : ℕ) → (a then b then done_with work) ≡ refused_at refusal place
+    → (a then b then c) ≡ refused_at refusal place
 unfolding ◌then◌
-chained_refused (Done x) (Done y) c work refusal place e = cc
-chained_refused (Done x) (Refused r q) c work refusal place e = e
-chained_refused (Refused r q) b c work refusal place e = e
+chained_refused (Ok x) (Ok y) c work refusal place e = cc
+chained_refused (Ok x) (Err refused) c work refusal place e = e
+chained_refused (Err refused) b c work refusal place e = e
 
 module _ (ticket : List ℕ) (p : Placements) (n : Lengths) (at : Pixel) where
   -- what refuses the job refuses the question,
-  pub why_refused : (refusal : Refusal) (place : ℕ) → answer ticket p n ≡ Refused refusal place
-      → why_answer ticket p n at ≡ Refused refusal place
+  pub why_refused : (refusal : Refusal) (place : ℕ) → answer ticket p n ≡ refused_at refusal place
+      → why_answer ticket p n at ≡ refused_at refusal place
   unfolding answer why_answer
   why_refused refusal place e = chained_refused (judged ticket) (judge_places (shown ticket) p n) _ _ refusal place e
 
   -- and where the job is finished only the pixel is left to judge
-  pub why_judged : (work : ℕ) → answer ticket p n ≡ Done work → why_answer ticket p n at ≡ judge_pixel p at
+  pub why_judged : (work : ℕ) → answer ticket p n ≡ done_with work → why_answer ticket p n at ≡ judge_pixel p at
   unfolding why_answer
   why_judged work e =
       let job = finished_job ticket p n work e in
@@ -59,7 +58,7 @@ module _ (ticket : List ℕ) (p : Placements) (n : Lengths) (at : Pixel) where
   -- a question that is answered is of a job that is finished, and of a pixel of its page
   pub record Answered : Type 0 where
     pub work : ℕ
-    pub job : answer ticket p n ≡ Done work
+    pub job : answer ticket p n ≡ done_with work
     pub column : at.column < p.width
     pub row : at.row < p.height
 
@@ -81,12 +80,12 @@ module _ (ticket : List ℕ) (p : Placements) (n : Lengths) (at : Pixel) where
 
 -- the pixel is judged by the page's sides
 module _ (p : Placements) (at : Pixel) where
-  pub pixel_on : at.column < p.width → at.row < p.height → judge_pixel p at ≡ Done 0
+  pub pixel_on : at.column < p.width → at.row < p.height → judge_pixel p at ≡ done_with 0
   unfolding judge_pixel unless
   pixel_on column row = rw (lt-ltb at.column p.width column, lt-ltb at.row p.height row) refl
 
   pub pixel_off :
-      (p.width ≤ at.column) ⊎ (p.height ≤ at.row) → judge_pixel p at ≡ Refused (Later PixelOffPage) 0
+      (p.width ≤ at.column) ⊎ (p.height ≤ at.row) → judge_pixel p at ≡ refused_at (Later PixelOffPage) 0
   unfolding judge_pixel unless
   pixel_off off =
       ⊎_elim
@@ -100,36 +99,39 @@ module _ (p : Placements) (at : Pixel) where
 
 module _ (ticket : List ℕ) (p : Placements) (source : List ℕ) (output scratch : ℕ) (at : Pixel) where
   pub told_answer :
-      (told ticket p source output scratch at).answer ≡ why_answer ticket p (lengths_of source output scratch) at
-  unfolding told
-  told_answer = refl
+      answer_in (told ticket p source output scratch at) ≡ why_answer ticket p (lengths_of source output scratch) at
+  unfolding told why_answer judge_pixel
+  told_answer =
+      let pixel = unless_no_work (ltb at.column p.width && ltb at.row p.height) (Later PixelOffPage) 0 in
+      given_answer _ _ (then_no_work (judged ticket) _ (then_no_work (judge_places (shown ticket) p _) _ pixel))
 
   -- with a refusal no reason
   pub told_refused :
       is_done (why_answer ticket p (lengths_of source output scratch) at) ≡ false
       → told ticket p source output scratch at
-      ≡ record { answer = why_answer ticket p (lengths_of source output scratch) at; reason = no_reason }
+      ≡ giving (why_answer ticket p (lengths_of source output scratch) at) no_reason
   unfolding told
-  told_refused refused =
-      λ i.
-      record {
-        answer = why_answer ticket p (lengths_of source output scratch) at;
-        reason = when_refused _ (reason_of (shown ticket) (source_page p) source at) no_reason refused i;
-      }
+  told_refused refused = giving_stop _ _ no_reason refused
 
   pub told_refusal : (refusal : Refusal) (place : ℕ)
-      → why_answer ticket p (lengths_of source output scratch) at ≡ Refused refusal place
-      → told ticket p source output scratch at ≡ record { answer = Refused refusal place; reason = no_reason }
-  unfolding is_done
+      → why_answer ticket p (lengths_of source output scratch) at ≡ refused_at refusal place
+      → told ticket p source output scratch at ≡ Err (record { refusal = refusal; at = place })
+  unfolding told
   told_refusal refusal place e =
-      told_refused (ap is_done e) ∙ ap (λ (a : Answer). record { answer = a; reason = no_reason }) e
+      ap (λ (a : Answer). giving a (reason_of (shown ticket) (source_page p) source at)) e ∙ giving_err _ _
 
   -- with none the reason
+  pub told_ok :
+      is_done (why_answer ticket p (lengths_of source output scratch) at) ≡ true
+      → told ticket p source output scratch at ≡ Ok (reason_of (shown ticket) (source_page p) source at)
+  unfolding told
+  told_ok done = giving_on _ (reason_of (shown ticket) (source_page p) source at) done
+
   pub told_done :
       is_done (why_answer ticket p (lengths_of source output scratch) at) ≡ true
-      → (told ticket p source output scratch at).reason ≡ reason_of (shown ticket) (source_page p) source at
-  unfolding told
-  told_done done = when_done_lem _ (reason_of (shown ticket) (source_page p) source at) no_reason done
+      → reason_told (told ticket p source output scratch at) ≡ reason_of (shown ticket) (source_page p) source at
+  unfolding reason_told
+  told_done done = ap reason_told (told_ok done)
 
 -- ---- which reason
 

@@ -4,36 +4,37 @@ use mathlib.Core.Path.{◌≡◌, refl, ap, ◌∙◌}
 use mathlib.Core.Bool.{not}
 use mathlib.Core.List.{List}
 use mathlib.Core.Option.{Option, none, some}
+use Rattle.std.specs.Prelude.{Some, Option as Value}
+use Rattle.std.specs.Option.{option_eq}
 use Prim.Native.Nat.{ℕ, ◌-◌, ◌<◌}
 use native.Mathlib.Omega.{arith}
-use borrow.Author.Tests.{ne_eqb}
 use lib.Dec.{eqb}
 use lib.ListN.{length, get_or}
 use Rattle.geometry.specs.Drift.{first}
 use Rattle.filter.specs.Filters.{extreme}
 use Rattle.filter.proofs.Laws.{extreme_same}
-use Rattle.finding.specs.Row.{absent, grey_in, value_of, in_row, pass_at_place, pass_in, first_pass, result_of, through_of}
-use Rattle.finding.specs.Row.{from_of}
+use Rattle.finding.specs.Row.{absent, grey_in, value_of, in_row, pass_at_place, pass_in, first_pass, result_of}
+use Rattle.finding.specs.Row.{through_of, from_of}
 use Rattle.finding.specs.Promises.{Lies, Fits}
-use Rattle.finding.proofs.Laws.{Grey, back_option, fits_lies, first_same}
+use Rattle.finding.proofs.Laws.{grey_value, fits_lies, first_same}
 use Rattle.finding.specs.declared.Search.{Search}
 use Rattle.why.specs.Reason.{has}
 
 -- a value is w where its number is
-pub value_has : (w : ℕ) → w < absent → (o : Option ℕ) → eqb (value_of o) w ≡ has w o
+pub value_has : (w : ℕ) (o : Option ℕ) → option_eq eqb (value_of o) (Some w) ≡ has w o
 unfolding value_of has
-value_has w low none = ne_eqb absent w (λ e. omega arith)
-value_has w low (some v) = refl
+value_has w none = refl
+value_has w (some v) = refl
 
-module _ (s : Search) (row : List ℕ) (value : ℕ → Option ℕ) (greys : Grey value)
-    (same : (i : ℕ) → i < length row → get_or row i 0 ≡ value_of (value i)) where
+module _ (s : Search) (row : List (Value ℕ)) (value : ℕ → Option ℕ)
+    (same : (i : ℕ) → i < length row → get_or row i absent ≡ value_of (value i)) where
   -- the first pass of the search, over the values
   abbrev passed : ℕ → Option ℕ
   passed = pass_in s.low s.back s.length value
 
   in_row_lem : (i : ℕ) → i < length row → in_row row i ≡ value i
-  unfolding in_row Grey
-  in_row_lem i within = ap grey_in (same i within) ∙ back_option (value i) (greys i)
+  unfolding in_row
+  in_row_lem i within = ap grey_in (same i within) ∙ grey_value (value i)
 
   by_value :
       (i : ℕ) → Lies s (length row) i → (o : Option ℕ)
@@ -62,19 +63,21 @@ module _ (s : Search) (row : List ℕ) (value : ℕ → Option ℕ) (greys : Gre
         (λ q from to. pass_same q (fits_lies s (length row) q fits from to)))
 
     pub through_same :
-        (w : ℕ) → w < absent → through_of s row w ≡ first (λ i. has w (passed i)) s.from s.steps
+        (w : ℕ) → through_of s row (Some w) ≡ first (λ i. has w (passed i)) s.from s.steps
     unfolding through_of first_pass
-    through_same w low =
+    through_same w =
         first_same _ _ s.from s.steps
         (λ q from to.
-        ap (λ (o : Option ℕ). eqb (value_of o) w) (pass_same q (fits_lies s (length row) q fits from to))
-        ∙ value_has w low (passed q))
+        ap (λ (o : Option ℕ). option_eq eqb (value_of o) (Some w))
+        (pass_same q (fits_lies s (length row) q fits from to))
+        ∙ value_has w (passed q))
 
   pub from_same :
-      (w i : ℕ) → w < absent → Lies s (length row) i
-      → from_of s row w i ≡ first (λ j. has w (value j)) (i - s.back) s.length
+      (w i : ℕ) → Lies s (length row) i
+      → from_of s row (Some w) i ≡ first (λ j. has w (value j)) (i - s.back) s.length
   unfolding from_of
-  from_same w i low lies =
+  from_same w i lies =
       first_same _ _ (i - s.back) s.length
       (λ q from to.
-      ap (λ (v : ℕ). eqb v w) (same q (omega (arith, lies.begins, lies.ends))) ∙ value_has w low (value q))
+      ap (λ (v : Value ℕ). option_eq eqb v (Some w)) (same q (omega (arith, lies.begins, lies.ends)))
+      ∙ value_has w (value q))

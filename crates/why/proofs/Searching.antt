@@ -1,15 +1,16 @@
 -- A search that finds something in its row: what its functions are handed, and the reason that its hit names.
 -- Assumes nothing.
-use mathlib.Core.Path.{◌≡◌, refl, ap, ◌∙◌}
+use mathlib.Core.Path.{◌≡◌, ap, ◌∙◌}
 use mathlib.Core.Bool.{Bool, cond}
 use mathlib.Core.List.{List}
+use Rattle.std.specs.Prelude.{Option, IsSome}
 use Prim.Native.Nat.{ℕ, ◌<◌}
 use native.Mathlib.Omega.{arith}
 use lib.ListN.{length}
 use Rattle.ticket.specs.declared.Ticket.{Ticket}
-use Rattle.finding.specs.Row.{absent, result_of, hit_of}
+use Rattle.finding.specs.Row.{result_of, hit_of}
 use Rattle.finding.specs.Promises.{Fits}
-use Rattle.finding.proofs.Laws.{IsHit, hit_is, fits_lies}
+use Rattle.finding.proofs.Laws.{IsHit, found_hit, fits_lies}
 use Rattle.finding.specs.declared.Hit.{Hit}
 use Rattle.finding.specs.declared.Search.{Search}
 use Rattle.nearby.specs.Stand.{pixel_in}
@@ -19,19 +20,19 @@ use Rattle.why.specs.Reason.{passes_twice, one_pass, two_passes}
 use Rattle.why.specs.Promises.{Searched, search_of, reason_in}
 use Rattle.why.specs.declared.Reason.{Reason}
 
-module _ (t : Ticket) (s : Standing) (profile row : List ℕ) (searched : Searched t s profile row) (q : Search)
-    (q-is : q ≡ search_of t) where
+module _ (t : Ticket) (s : Standing) (profile : List ℕ) (row : List (Option ℕ)) (searched : Searched t s profile row)
+    (q : Search) (q-is : q ≡ search_of t) where
   pub fits : Fits q (length row)
   fits = rw q-is searched.fits
 
-  pub result_near : result_of q row < absent
-  result_near = rw q-is searched.result
+  pub result_there : IsSome (result_of q row)
+  result_there = rw q-is searched.result
 
   module _ (h : Hit) (h-is : h ≡ hit_of q row) where
     -- both places of the hit are places of the row
     is_hit : IsHit q row (result_of q row) h
     unfolding hit_of
-    is_hit = rw h-is (hit_is q row (result_of q row) result_near refl)
+    is_hit = rw h-is (found_hit q row result_there)
 
     pub through_near : h.through < 16383
     through_near =

@@ -4,13 +4,13 @@ use mathlib.Core.Bool.{Bool, true, false, not, cond}
 use mathlib.Core.List.{List}
 use mathlib.Core.Option.{Option, none, some, none-ne-some}
 use Prim.Native.Nat.{ℕ, suc, ◌+◌, ◌-◌, ◌≤◌, ◌<◌}
+use Rattle.std.specs.Prelude.{Some, IsSome, is_some, Option as Value}
 use native.Mathlib.Nat.{add-zero}
 use native.Mathlib.Omega.{arith}
 use lib.ListN.{length, get_or}
 use Rattle.geometry.specs.Drift.{Sound, first}
 use Rattle.geometry.specs.Line.{step_of}
 use Rattle.geometry.specs.declared.Line.{Line}
-use Rattle.ticket.specs.Laws.{Bytes}
 use Rattle.ticket.specs.declared.Ticket.{Ticket}
 use Rattle.boxes.specs.Boxes.{hidden, boxes_of}
 use Rattle.placement.specs.Placement as placement
@@ -22,19 +22,17 @@ use Rattle.filter.specs.Engine.{Absent, back_of}
 use Rattle.filter.specs.Filters.{joined, extreme, in_window, pass, operated, filtered, or_white}
 use Rattle.filter.proofs.Laws.{extreme_shifted, pass_there, pass_some, own_value}
 use Rattle.filter.proofs.Absence.{seen_shown, absent_turned}
-use Rattle.filter.proofs.Within.{Within, seen_within, page_within}
-use Rattle.job.specs.Order.{line_of, segment_of, recipe_of, white}
-use Rattle.job.specs.Job.{finished_with, finished}
+use Rattle.job.specs.Order.{line_of, segment_of, white}
+use Rattle.job.specs.Job.{finished}
 use Rattle.job.specs.Laws.{finished_is, line_sound}
-use Rattle.finding.specs.Row.{absent, value_of, pass_at_place, pass_in, result_of, first_pass, through_of, from_of, hit_with}
-use Rattle.finding.specs.Row.{hit_of}
+use Rattle.finding.specs.Row.{absent, value_of, pass_at_place, pass_in, result_of, first_pass, through_of, from_of}
+use Rattle.finding.specs.Row.{hit_with, hit_of}
 use Rattle.finding.specs.Promises.{Lies, Fits}
-use Rattle.finding.proofs.Laws.{Grey, value_some, fits_lies, first_shifted, IsHit, hit_is}
+use Rattle.finding.proofs.Laws.{value_some, fits_lies, first_shifted, IsHit, hit_is}
 use Rattle.finding.specs.declared.Hit.{Hit}
 use Rattle.finding.specs.declared.Search.{Search}
 use Rattle.nearby.specs.Stand.{standing_of, pixel_in, near_at}
 use Rattle.nearby.specs.Promises.{RowNear}
-use Rattle.nearby.specs.Laws.{seen_near}
 use Rattle.nearby.specs.declared.Pixel.{Pixel}
 use Rattle.nearby.specs.declared.Standing.{Standing}
 use Rattle.why.specs.Reason.{starts_low, passes_twice, has, first_with, pixel_at, named, by_one_pass, by_two_passes}
@@ -60,8 +58,7 @@ extreme_one : (low : Bool) (value : ℕ → Option ℕ) (k w : ℕ) → value k 
 unfolding extreme joined
 extreme_one low value k w e = ap (λ (o : Option ℕ). joined low o none) e
 
-module _ (t : Ticket) (p : Placement) (tray : List ℕ) (at : Pixel) (asked : Asked t p (length tray) at)
-    (bytes : Bytes tray) where
+module _ (t : Ticket) (p : Placement) (tray : List ℕ) (at : Pixel) (asked : Asked t p (length tray) at) where
   abbrev l : Line
   l = line_of t
 
@@ -104,30 +101,6 @@ module _ (t : Ticket) (p : Placement) (tray : List ℕ) (at : Pixel) (asked : As
   whole : suc (back + other) ≡ t.length
   unfolding segment_of
   whole = backs_whole (segment_of t) low asked.ticket.origin_below
-
-  -- ---- greys
-
-  small : (c r : ℕ) → placement.pixel_in tray p c r ≤ 255
-  unfolding placement.pixel_in
-  small c r = omega (arith, bytes (placement.byte_of p c r))
-
-  result_low : result < absent
-  unfolding finished_with recipe_of
-  result_low =
-      omega (
-        arith,
-        page_within 255 (recipe_of t white) p.width p.height (placement.pixel_in tray p) (omega arith)
-            (λ c r c_in r_in shows. small c r) at.column at.row,
-      )
-
-  near_grey : Grey near
-  unfolding Grey Within seen_by standing_of near_at
-  near_grey i v e same =
-      omega (
-        arith,
-        seen_within 255 (boxes_of t) p.width p.height (placement.pixel_in tray p) (λ c r c_in r_in shows. small c r)
-            _ _ v (seen_near (boxes_of t) p.width p.height (placement.pixel_in tray p) standing i refl refl ∙ e),
-      )
 
   absent_off : Absent standing.high standing.wide page
   unfolding standing_of seen_by
@@ -174,7 +147,7 @@ module _ (t : Ticket) (p : Placement) (tray : List ℕ) (at : Pixel) (asked : As
     unfolding segment_of
     once_result once =
         let passes =
-        once_is (segment_of t) page t.operation asked.ticket.operation_from asked.ticket.operation_to once
+        once_is (segment_of t) page t.operation once
         ∙ first_is (segment_of t) page t.operation
         in
         let is = ap (λ (f : View). f M m) passes ∙ first_there.1 in
@@ -185,7 +158,7 @@ module _ (t : Ticket) (p : Placement) (tray : List ℕ) (at : Pixel) (asked : As
     unfolding segment_of
     twice_result twice =
         let passes =
-        twice_is (segment_of t) page t.operation asked.ticket.operation_from asked.ticket.operation_to twice
+        twice_is (segment_of t) page t.operation twice
         ∙ ap (pass (not low) l other t.length) (first_is (segment_of t) page t.operation)
         in
         let second =
@@ -195,9 +168,9 @@ module _ (t : Ticket) (p : Placement) (tray : List ℕ) (at : Pixel) (asked : As
 
     -- ---- the row
 
-    module _ (row : List ℕ) (filled : RowNear t standing p tray row)
+    module _ (row : List (Value ℕ)) (filled : RowNear t standing p tray row)
         (places : suc (length row) ≡ t.length + t.length) where
-      same : (i : ℕ) → i < length row → get_or row i 0 ≡ value_of (near i)
+      same : (i : ℕ) → i < length row → get_or row i absent ≡ value_of (near i)
       unfolding standing_of seen_by near_at
       same i within = filled.near i within
 
@@ -207,15 +180,15 @@ module _ (t : Ticket) (p : Placement) (tray : List ℕ) (at : Pixel) (asked : As
         looked = record { low = low; back = back; length = t.length; from = from; steps = steps }
 
         -- where the result is found, the hit is a place that is there, and its window has one that is named
-        module _ (fits : Fits looked (length row)) (found : result_of looked row ≡ result) where
+        module _ (fits : Fits looked (length row)) (found : result_of looked row ≡ Some result) where
           abbrev i : ℕ
-          i = through_of looked row result
+          i = through_of looked row (Some result)
 
           abbrev j : ℕ
-          j = from_of looked row result i
+          j = from_of looked row (Some result) i
 
-          hit : IsHit looked row result (hit_with looked row result)
-          hit = hit_is looked row result result_low found
+          hit : IsHit looked row (Some result) (hit_with looked row (Some result))
+          hit = hit_is looked row result found
 
           lies : Lies looked (length row) i
           unfolding hit_with
@@ -224,8 +197,8 @@ module _ (t : Ticket) (p : Placement) (tray : List ℕ) (at : Pixel) (asked : As
           gives : passed i ≡ some result
           unfolding hit_with first_pass
           gives =
-              sym (pass_same looked row near near_grey same i lies)
-              ∙ value_some _ result hit.gives result_low
+              sym (pass_same looked row near same i lies)
+              ∙ value_some _ result hit.gives
 
           through_there : (v : ℕ) × (near i ≡ some v)
           through_there = pass_there_of low back t.length near i (near i) refl gives
@@ -235,13 +208,12 @@ module _ (t : Ticket) (p : Placement) (tray : List ℕ) (at : Pixel) (asked : As
           from_there =
               value_some (near j) result
               (sym (same j (omega (arith, lies.begins, lies.ends, hit.from_to))) ∙ hit.there)
-              result_low
 
           from_named : named l page back t.length result (pixel_in standing i) ≡ pixel_in standing j
           from_named =
               named_from l sound reach p.width p.height at page absent_off back t.length result i
               through_there.0 j result lies.begins through_there.1
-              (from_same looked row near near_grey same result i result_low lies) from_there
+              (from_same looked row near same result i lies) from_there
 
       -- ---- one pass: the place of the pixel alone
 
@@ -261,7 +233,7 @@ module _ (t : Ticket) (p : Placement) (tray : List ℕ) (at : Pixel) (asked : As
             inside = omega (arith, whole);
           }
 
-      found_once : passes_twice t.operation ≡ false → result_of (looked reach 1) row ≡ result
+      found_once : passes_twice t.operation ≡ false → result_of (looked reach 1) row ≡ Some result
       unfolding value_of
       found_once once =
           let own : passed reach ≡ some result =
@@ -269,13 +241,13 @@ module _ (t : Ticket) (p : Placement) (tray : List ℕ) (at : Pixel) (asked : As
           ∙ own_value l sound first_page reach M m
           ∙ once_result once
           in
-          result_same (looked reach 1) row near near_grey same fits_once
+          result_same (looked reach 1) row near same fits_once
           ∙ ap value_of (extreme_one (not low) passed reach result own)
 
-      found_twice : passes_twice t.operation ≡ true → result_of (looked back t.length) row ≡ result
+      found_twice : passes_twice t.operation ≡ true → result_of (looked back t.length) row ≡ Some result
       unfolding value_of
       found_twice twice =
-          result_same (looked back t.length) row near near_grey same fits_twice
+          result_same (looked back t.length) row near same fits_twice
           ∙ ap value_of
           (ap (λ (q : ℕ). extreme (not low) passed q t.length) (sym (add-zero back))
           ∙ sym
@@ -293,7 +265,7 @@ module _ (t : Ticket) (p : Placement) (tray : List ℕ) (at : Pixel) (asked : As
       through_twice twice =
           let found = found_twice twice in
           let is-first =
-          through_same (looked back t.length) row near near_grey same fits_twice result result_low
+          through_same (looked back t.length) row near same fits_twice result
           ∙ ap (λ (q : ℕ). first (λ r. has result (passed r)) q t.length) (sym (add-zero back))
           ∙ sym
           (first_shifted _ (λ r. has result (passed r)) back 0 t.length (λ k from to. ap (has result) (second_is k)))
@@ -346,7 +318,8 @@ module _ (t : Ticket) (p : Placement) (tray : List ℕ) (at : Pixel) (asked : As
           let found = found_once once in
           let through = through_once once in
           let from = sym (from_named reach 1 fits_once found) ∙ ap (named l page back t.length result) through in
-          ap (λ (w : ℕ). told_as one_pass (hit_with (looked reach 1) row w)) found ∙ ap₂ (pixels_as one_pass) through from
+          ap (λ (w : Value ℕ). told_as one_pass (hit_with (looked reach 1) row w)) found
+          ∙ ap₂ (pixels_as one_pass) through from
 
       by_twice : passes_twice t.operation ≡ true
           → told_by true ≡ by_two_passes t.operation (segment_of t) page result at
@@ -360,7 +333,7 @@ module _ (t : Ticket) (p : Placement) (tray : List ℕ) (at : Pixel) (asked : As
           in
           let from =
           sym (from_named back t.length fits_twice found) ∙ ap (named l page back t.length result) through in
-          ap (λ (w : ℕ). told_as two_passes (hit_with (looked back t.length) row w)) found
+          ap (λ (w : Value ℕ). told_as two_passes (hit_with (looked back t.length) row w)) found
           ∙ ap₂ (pixels_as two_passes) through from
 
       by_test : (b : Bool) → passes_twice t.operation ≡ b
@@ -382,12 +355,12 @@ module _ (t : Ticket) (p : Placement) (tray : List ℕ) (at : Pixel) (asked : As
           fits_by true = fits_twice
           fits_by false = fits_once
 
-      pub row_result : result_of (search_of t) row < absent
+      pub row_result : IsSome (result_of (search_of t) row)
       unfolding search_of
-      row_result = omega (arith, found_by (passes_twice t.operation) refl, result_low)
+      row_result = ap is_some (found_by (passes_twice t.operation) refl)
         where
           found_by :
               (b : Bool) → passes_twice t.operation ≡ b
-              → result_of (looked (cond b back reach) (cond b t.length 1)) row ≡ result
+              → result_of (looked (cond b back reach) (cond b t.length 1)) row ≡ Some result
           found_by true twice = found_twice twice
           found_by false once = found_once once

@@ -15,6 +15,7 @@ use Rattle.geometry.specs.Line.{landing, step_of, major_at}
 use Rattle.geometry.specs.Drift.{first}
 use Rattle.geometry.proofs.Laws.{first_is}
 use Rattle.geometry.specs.declared.Line.{Line}
+use Rattle.ticket.specs.declared.Operation.{Operation}
 use Rattle.ticket.specs.declared.Ticket.{Ticket}
 use Rattle.boxes.specs.Boxes.{boxes_of}
 use Rattle.placement.specs.Placement.{pixel_in}
@@ -171,13 +172,13 @@ named_same l page page' a n w at same =
 -- ---- the passes of an operation
 
 -- an operation of one pass: the lowest of a window, or the highest
-pub record Once (n : ℕ) (low : Bool) : Type 0 where
+pub record Once (n : Operation) (low : Bool) : Type 0 where
   pub starts : starts_low n ≡ low
   pub once : passes_twice n ≡ false
   pub filter : (s : Segment) (page : View) → operated n s page ≡ pass low s.line (back_of s low) s.length page
 
 -- and of two, the second of which takes the other
-pub record Twice (n : ℕ) (low : Bool) : Type 0 where
+pub record Twice (n : Operation) (low : Bool) : Type 0 where
   pub starts : starts_low n ≡ low
   pub twice : passes_twice n ≡ true
   pub filter :
@@ -231,7 +232,7 @@ unfoldable with_steps : ℕ → ℕ → Pixel → Pixel → Reason
 with_steps kind phase through from =
     record { kind = kind; number = 0; phase = phase; through = through; from = from }
 
-module _ (n : ℕ) (low : Bool) (s : Segment) (page : View) (w : ℕ) (at : Pixel) (starts : starts_low n ≡ low) where
+module _ (n : Operation) (low : Bool) (s : Segment) (page : View) (w : ℕ) (at : Pixel) (starts : starts_low n ≡ low) where
   abbrev l : Line
   l = s.line
 
@@ -339,7 +340,7 @@ module _ (t : Ticket) (p : Placement) (tray tray' : List ℕ) (at : Pixel) (low 
   abbrev w' : ℕ
   w' = finished t p tray' at.column at.row
 
-  abbrev n : ℕ
+  abbrev n : Operation
   n = t.operation
 
   abbrev window_back : ℕ

@@ -1,13 +1,13 @@
 -- What the functions of a question ask of one another.
 -- Assumes nothing.
-use Rattle.std.specs.Prelude.{ℕ, ◌-◌, ◌≤◌, ◌<◌, cond, List, length}
+use Rattle.std.specs.Prelude.{ℕ, ◌-◌, ◌≤◌, ◌<◌, cond, List, length, Option, IsSome}
 use Rattle.ticket.specs.Laws.{Allowed}
 use Rattle.ticket.specs.declared.Ticket.{Ticket}
 use Rattle.placement.specs.Placement.{Placed}
 use Rattle.placement.specs.declared.Placement.{Placement}
 use Rattle.filter.specs.Engine.{back_of}
 use Rattle.job.specs.Order.{segment_of}
-use Rattle.finding.specs.Row.{absent, result_of, hit_of}
+use Rattle.finding.specs.Row.{result_of, hit_of}
 use Rattle.finding.specs.Promises.{Fits}
 use Rattle.finding.specs.declared.Search.{Search}
 use Rattle.nearby.specs.Stand.{pixel_in}
@@ -39,7 +39,7 @@ search_of t =
     }
 
 -- the reason that a row's first hit names
-unfoldable pub reason_in : Ticket → Standing → List ℕ → Reason
+unfoldable pub reason_in : Ticket → Standing → List (Option ℕ) → Reason
 reason_in t s row =
     let hit = hit_of (search_of t) row in
     record {
@@ -51,10 +51,10 @@ reason_in t s row =
     }
 
 -- a row in which a search finds something, and the pixels of its places can be told
-pub record Searched (t : Ticket) (s : Standing) (profile row : List ℕ) : Type 0 where
+pub record Searched (t : Ticket) (s : Standing) (profile : List ℕ) (row : List (Option ℕ)) : Type 0 where
   pub ticket : Allowed t
   pub stands : Stands s
   pub tabled : Tabled s profile
   pub fits : Fits (search_of t) (length row)
   pub short : length row ≤ 16383
-  pub result : result_of (search_of t) row < absent
+  pub result : IsSome (result_of (search_of t) row)

@@ -1,12 +1,14 @@
 -- Document 02, wish 4: "Given a job and a pixel, name the reason". A page is by its places on the two axes, as the
 -- filters have it (filter, Filters): M is a pixel's place along its line and m the other. "First" is the smaller step.
 -- Assumes nothing.
-use Rattle.std.specs.Prelude.{ℕ, ◌+◌, ◌-◌, Bool, false, not, ◌||◌, cond, List, eqb}
+use Rattle.std.specs.Prelude.{ℕ, ◌+◌, ◌-◌, Bool, true, false, not, cond, List, eqb}
 use Rattle.std.proofs.Math.Option.{Option, none, some}
 use Rattle.geometry.specs.Drift.{first}
 use Rattle.geometry.specs.Line.{landing, step_of, major_at}
 use Rattle.geometry.specs.declared.Line.{Line}
 use Rattle.ticket.specs.declared.HiddenBox.{HiddenBox}
+use Rattle.ticket.specs.declared.Operation.{Operation}
+use Rattle.ticket.specs.declared.Operation.TheVariants.{Erode, Dilate, Open, Close}
 use Rattle.ticket.specs.declared.Ticket.{Ticket}
 use Rattle.boxes.specs.Boxes.{covers, hidden, boxes_of}
 use Rattle.boxes.specs.First.{first_of}
@@ -15,7 +17,7 @@ use Rattle.placement.specs.declared.Placement.{Placement}
 use Rattle.tray.specs.Turned.{down_of, across_of}
 use Rattle.filter.specs.Seen.{View, seen, turned, runs_steep}
 use Rattle.filter.specs.Engine.{back_of}
-use Rattle.filter.specs.Filters.{in_window, eroded, dilated, erosion, opening, closing}
+use Rattle.filter.specs.Filters.{in_window, eroded, dilated}
 use Rattle.filter.specs.declared.Segment.{Segment}
 use Rattle.job.specs.Job.{finished}
 use Rattle.job.specs.Order.{line_of, segment_of}
@@ -55,14 +57,20 @@ named l page a n w at =
 -- ---- the passes of an operation
 
 -- erosion and opening begin by taking the lowest
-unfoldable pub starts_low : ℕ → Bool
-starts_low n = eqb n erosion || eqb n opening
+unfoldable pub starts_low : Operation → Bool
+starts_low Erode = true
+starts_low Dilate = false
+starts_low Open = true
+starts_low Close = false
 
-unfoldable pub passes_twice : ℕ → Bool
-passes_twice n = eqb n opening || eqb n closing
+unfoldable pub passes_twice : Operation → Bool
+passes_twice Erode = false
+passes_twice Dilate = false
+passes_twice Open = true
+passes_twice Close = true
 
 -- the page after the first pass: "Opening erodes, then dilates the eroded page; closing does the reverse"
-unfoldable pub first_pass_of : ℕ → Segment → View → View
+unfoldable pub first_pass_of : Operation → Segment → View → View
 first_pass_of n s page = cond (starts_low n) (eroded s page) (dilated s page)
 
 -- ---- the reason
@@ -92,7 +100,7 @@ abbrev pub no_reason : Reason
 no_reason = without_steps 0 0
 
 -- "for one pass, the first unhidden step in the window whose value is the result"
-unfoldable pub by_one_pass : ℕ → Segment → View → ℕ → Pixel → Reason
+unfoldable pub by_one_pass : Operation → Segment → View → ℕ → Pixel → Reason
 by_one_pass n s page w at =
     record {
       kind = one_pass;
@@ -104,7 +112,7 @@ by_one_pass n s page w at =
 
 -- "for two passes, the first unhidden step of the second window that gives the result": after the first pass it has the
 -- result; "then the first unhidden step in that one's own window that gave it"
-unfoldable pub by_two_passes : ℕ → Segment → View → ℕ → Pixel → Reason
+unfoldable pub by_two_passes : Operation → Segment → View → ℕ → Pixel → Reason
 by_two_passes n s page w at =
     let through = named s.line (first_pass_of n s page) (back_of s (not (starts_low n))) s.length w at in
     record {

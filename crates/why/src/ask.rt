@@ -1,35 +1,23 @@
 // The question: a job and a pixel.
 ghost use Rattle.std.specs.Prelude.{◌≡◌};
-ghost use Rattle.why.specs.Reason.{no_reason};
 ghost use Rattle.why.specs.Told.{judge_pixel, told};
 
-use super::Told;
-use super::steps::{reason_of, without_steps};
+use super::Reason;
+use super::steps::reason_of;
 use judging::Lengths;
 use judging::judge::judge;
 use nearby::Pixel;
 use placement::{Placements, place};
-use refusal::chain::{first_refusal, refuse_unless};
-use refusal::report::is_done;
-use refusal::{Answer, Later, Refusal};
+use refusal::chain::refuse_unless;
+use refusal::{Later, Refusal, Refused};
 
 // 19: the pixel is one of the page.
-fn judge_pixel(p: Placements, at: Pixel) -> Answer
+fn judge_pixel(p: Placements, at: Pixel) -> Result<u64, Refused>
     ensures { result ≡ judge_pixel p at }
 {
     let across = at.column < p.width;
     let down = at.row < p.height;
     refuse_unless(across & down, Refusal::Later(Later::PixelOffPage), 0)
-}
-
-// No reason for what is refused.
-fn refused(answer: Answer) -> Told
-    ensures { result ≡ record { answer = answer; reason = no_reason } }
-{
-    Told {
-        answer: answer,
-        reason: without_steps(0, 0),
-    }
 }
 
 // Why a pixel of a job comes out so. The output tray and the scratch are judged by their lengths as for the job, and
@@ -42,26 +30,16 @@ pub fn why(
     output: usize,
     scratch: usize,
     at: Pixel,
-) -> Told
+) -> Result<Reason, Refused>
     ensures { result ≡ told ticket.now p source.now output scratch at }
 {
-    let reading = ticket::read(ticket);
-    let read = reading.answer;
-    if !is_done(read) {
-        return refused(read);
-    }
+    let read = ticket::read(ticket)?;
     let n = Lengths {
         source: source.len(),
-        output: output,
-        scratch: scratch,
+        output,
+        scratch,
     };
-    let answer = first_refusal(judge(reading.ticket, p, n), judge_pixel(p, at));
-    if !is_done(answer) {
-        return refused(answer);
-    }
-    let from = place::source_page(p);
-    Told {
-        answer: answer,
-        reason: reason_of(reading.ticket, source, from, at),
-    }
+    judge(read, p, n)?;
+    judge_pixel(p, at)?;
+    Ok(reason_of(read, source, place::source_page(p), at))
 }

@@ -13,11 +13,10 @@ mod order;
 mod steps;
 
 use nearby::Pixel;
-use refusal::Answer;
 
 // A reason: kind 1, a hidden box, by its number from 0; 3, one pass, `through` the pixel itself and `from` the step of
 // its window; 4, two passes, `through` the step of the second window and `from` the one of that step's own window. 2 is
-// left for a kept box. A number that is not meant is 0, and so is the kind where nothing is named.
+// left for a kept box. A number that is not meant is 0.
 #[derive(Clone, Copy)]
 pub struct Reason {
     pub kind: usize,
@@ -25,11 +24,4 @@ pub struct Reason {
     pub phase: usize,
     pub through: Pixel,
     pub from: Pixel,
-}
-
-// What is told: done, with no work, and a reason; or refused, and none.
-#[derive(Clone, Copy)]
-pub struct Told {
-    pub answer: Answer,
-    pub reason: Reason,
 }

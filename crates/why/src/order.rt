@@ -1,37 +1,24 @@
 // What a ticket orders of the search.
-ghost use Rattle.std.specs.Prelude.{◌≡◌, cond};
+ghost use Rattle.std.specs.Prelude.{◌≡◌};
 ghost use Rattle.ticket.specs.Laws.{Allowed};
 ghost use Rattle.why.specs.Reason.{starts_low, passes_twice};
 ghost use Rattle.why.specs.Promises.{search_of};
 
 use finding::Search;
-use ticket::Ticket;
-
-// "operation: 1 erode, 2 dilate, 3 open, 4 close"
-const EROSION: usize = 1;
-
-const OPENING: usize = 3;
-
-const CLOSING: usize = 4;
+use ticket::{Operation, Ticket};
 
 // Whether the first pass takes the lowest.
-fn starts_low(operation: usize) -> bool
+fn starts_low(operation: Operation) -> bool
     ensures { result ≡ starts_low operation }
 {
-    (operation == EROSION) | (operation == OPENING)
+    matches!(operation, Operation::Erode | Operation::Open)
 }
 
 // Whether a second pass follows.
-pub fn passes_twice(operation: usize) -> bool
+pub fn passes_twice(operation: Operation) -> bool
     ensures { result ≡ passes_twice operation }
 {
-    (operation == OPENING) | (operation == CLOSING)
-}
-
-pub fn either(test: bool, one: usize, other: usize) -> usize
-    ensures { result ≡ cond test one other }
-{
-    if test { one } else { other }
+    matches!(operation, Operation::Open | Operation::Close)
 }
 
 // The windows of the first pass, and where they are laid: at every step of the second window, or at the pixel alone.
@@ -44,12 +31,13 @@ pub fn search_of(t: Ticket) -> Search
     let low = starts_low(t.operation);
     let twice = passes_twice(t.operation);
     let last = t.length - 1;
-    let back = either(low, t.origin, last - t.origin);
+    let back = if low { t.origin } else { last - t.origin };
+    let (from, steps) = if twice { (back, t.length) } else { (last, 1) };
     Search {
-        low: low,
-        back: back,
+        low,
+        back,
         length: t.length,
-        from: either(twice, back, last),
-        steps: either(twice, t.length, 1),
+        from,
+        steps,
     }
 }

@@ -5,7 +5,7 @@ ghost use Rattle.why.specs.Reason.{without_steps, by_steps, reason_of};
 ghost use Rattle.why.specs.Promises.{Asked, Searched, reason_in};
 
 use super::Reason;
-use super::order::{either, passes_twice, search_of};
+use super::order::{passes_twice, search_of};
 use boxes::Question;
 use finding::hits::first_hit;
 use nearby::place::pixel_in;
@@ -26,40 +26,25 @@ const TWO_PASSES: usize = 4;
 pub fn without_steps(kind: usize, number: usize) -> Reason
     ensures { result ≡ without_steps kind number }
 {
-    let through = Pixel { column: 0, row: 0 };
-    let from = Pixel { column: 0, row: 0 };
+    let nowhere = Pixel { column: 0, row: 0 };
     Reason {
-        kind: kind,
-        number: number,
+        kind,
+        number,
         phase: 0,
-        through: through,
-        from: from,
+        through: nowhere,
+        from: nowhere,
     }
 }
 
-// A table for the longest side.
-fn no_entries() -> [usize; 8192]
-    ensures { length result ≡ 8192 }
-{
-    [0usize; 8192]
-}
-
-// A row for the longest segment.
-fn no_values() -> [u16; 16384]
-    ensures { length result ≡ 16384 }
-{
-    [0u16; 16384]
-}
-
 // The reason that the first hit in a row names.
-fn named_in(t: Ticket, s: Standing, profile: &[usize], row: &[u16]) -> Reason
+fn named_in(t: Ticket, s: Standing, profile: &[usize], row: &[Option<u16>]) -> Reason
     requires { Searched t s profile.now row.now }
     ensures { result ≡ reason_in t s row.now }
 {
     let hit = first_hit(search_of(t), row);
     let twice = passes_twice(t.operation);
     Reason {
-        kind: either(twice, TWO_PASSES, ONE_PASS),
+        kind: if twice { TWO_PASSES } else { ONE_PASS },
         number: 0,
         phase: t.phase,
         through: pixel_in(s, profile, hit.through),
@@ -74,7 +59,7 @@ fn by_steps(
     from: Placement,
     at: Pixel,
     profile: &mut [usize],
-    row: &mut [u16],
+    row: &mut [Option<u16>],
 ) -> Reason
     requires asked { Asked t from (length source.now) at }
     requires row_value { hidden (boxes_of t) at.column at.row ≡ false }
@@ -97,13 +82,14 @@ pub fn reason_of(t: Ticket, source: &[u8], from: Placement, at: Pixel) -> Reason
         column: at.column,
         row: at.row,
     };
-    let boxes = t.boxes;
-    let number = boxes::first_of(boxes, t.count, question);
-    if number < t.count {
-        return without_steps(HIDDEN_BOX, number);
+    match boxes::first_of(t.boxes, t.count, question) {
+        Some(number) => without_steps(HIDDEN_BOX, number),
+        None => {
+            // A table for the longest side, and of a row for the longest segment the places of this one.
+            let mut profile = [0; 8192];
+            let mut row = [None; 16384];
+            let places = t.length + t.length - 1;
+            by_steps(t, source, from, at, &mut profile[..], &mut row[..places])
+        }
     }
-    let mut profile = no_entries();
-    let mut row = no_values();
-    let places = t.length + t.length - 1;
-    by_steps(t, source, from, at, &mut profile[..], &mut row[..places])
 }

@@ -15,10 +15,8 @@ use Rattle.geometry.specs.Number.{within, in_page, count, behind, ahead}
 use Rattle.runs.specs.Span.{chosen}
 use Rattle.runs.specs.Block.{rightward, leftward, resulting}
 use Rattle.runs.specs.Scratch.{total}
-use Rattle.refusal.specs.Answer.{number_of, place_of, work_in, is_done, when_done}
+use Rattle.refusal.specs.Answer.{number_of, place_of, work_in, is_done, when_done, Answer, done_with}
 use Rattle.refusal.specs.Chain.{unless, ◌then◌}
-use Rattle.refusal.specs.declared.Answer.{Answer}
-use Rattle.refusal.specs.declared.Answer.TheVariants.{Done}
 use Rattle.fields.specs.Fields.{byte_at, number_at, signed16, signed_at, operation_in, line_in, dx_in, dy_in}
 use Rattle.fields.specs.Fields.{length_in, origin_in, phase_in, field_end}
 use Rattle.fields.specs.Vectors.{divided, coprime, vector_allowed, phase_allowed}
@@ -28,7 +26,11 @@ use Rattle.ticket.specs.Judging.{length_allowed, origin_allowed}
 use Rattle.ticket.specs.Judging.{judge_operation, judge_line, judge_vector, judge_length, judge_origin, judge_phase, judge_box}
 use Rattle.ticket.specs.Judging.{judged}
 use Rattle.ticket.specs.Judging as ticket-judging
-use Rattle.ticket.specs.Reading.{box_places, shown}
+use Rattle.ticket.specs.Reading.{operation_of, kind_of, operation_number, periodic_kind, box_places, shown}
+use Rattle.ticket.specs.declared.LineKind.{LineKind}
+use Rattle.ticket.specs.declared.LineKind.TheVariants.{Connected, Periodic}
+use Rattle.ticket.specs.declared.Operation.{Operation}
+use Rattle.ticket.specs.declared.Operation.TheVariants.{Erode, Dilate, Open, Close}
 use Rattle.ticket.specs.declared.Ticket.{Ticket}
 use Rattle.boxes.specs.Boxes.{covers, hidden, boxes_of, box_allowed}
 use Rattle.placement.specs.Placement.{row_start, byte_of, pixel_in, column_of, row_of, inside, side_allowed, allowed, fits}
@@ -54,9 +56,9 @@ use Rattle.judging.specs.Pages.{job_scratch}
 abbrev word : ℕ → List ℕ
 word n = n / 256 % 256 ∷ n % 256 ∷ []
 
-abbrev ticket : ℕ → ℕ → ℕ → ℕ → ℕ → ℕ → ℕ → List ℕ
+abbrev ticket : Operation → ℕ → ℕ → ℕ → ℕ → ℕ → ℕ → List ℕ
 ticket operation line dx dy l o i =
-    (1 ∷ 0 ∷ 1 ∷ operation ∷ 2 ∷ 0 ∷ 1 ∷ line ∷ [])
+    (1 ∷ 0 ∷ 1 ∷ operation_number operation ∷ 2 ∷ 0 ∷ 1 ∷ line ∷ [])
     ++ (3 ∷ 0 ∷ 4 ∷ word dx)
     ++ word dy
     ++ (4 ∷ 0 ∷ 2 ∷ word l)
@@ -64,7 +66,7 @@ ticket operation line dx dy l o i =
     ++ (6 ∷ 0 ∷ 2 ∷ word i)
 
 -- "connected (1, 0), phase 0, unless said otherwise"
-abbrev plain : ℕ → ℕ → ℕ → List ℕ
+abbrev plain : Operation → ℕ → ℕ → List ℕ
 plain operation l o = ticket operation 1 1 0 l o 0
 
 abbrev box : ℕ → ℕ → ℕ → ℕ → List ℕ
@@ -339,7 +341,7 @@ by_table c =
 
 -- ---- how it is computed: a ticket is read once, and not again at every step of a window
 
--- a number is computed before it is handed on
+-- a number, an operation and a kind of line are computed before they are handed on
 unfoldable first : ℕ → (ℕ → Verdict) → Verdict
 first zero f = f zero
 first (suc n) f = f (suc n)
@@ -358,10 +360,32 @@ unfolding firstℤ
 firstℤ_is (pos n) f = first_is n (λ (m : ℕ). f (pos m))
 firstℤ_is (negsuc n) f = first_is n (λ (m : ℕ). f (negsuc m))
 
+unfoldable first_operation : Operation → (Operation → Verdict) → Verdict
+first_operation Erode f = f Erode
+first_operation Dilate f = f Dilate
+first_operation Open f = f Open
+first_operation Close f = f Close
+
+first_operation_is : (n : Operation) (f : Operation → Verdict) → first_operation n f ≡ f n
+unfolding first_operation
+first_operation_is Erode f = refl
+first_operation_is Dilate f = refl
+first_operation_is Open f = refl
+first_operation_is Close f = refl
+
+unfoldable first_kind : LineKind → (LineKind → Verdict) → Verdict
+first_kind Connected f = f Connected
+first_kind Periodic f = f Periodic
+
+first_kind_is : (k : LineKind) (f : LineKind → Verdict) → first_kind k f ≡ f k
+unfolding first_kind
+first_kind_is Connected f = refl
+first_kind_is Periodic f = refl
+
 unfoldable read_first : Ticket → (Ticket → Verdict) → Verdict
 read_first t f =
-    first t.operation (λ (operation : ℕ).
-    first t.line (λ (line : ℕ).
+    first_operation t.operation (λ (operation : Operation).
+    first_kind t.line (λ (line : LineKind).
     firstℤ t.dx (λ (dx : ℤ).
     firstℤ t.dy (λ (dy : ℤ).
     first t.length (λ (length : ℕ).
@@ -382,7 +406,7 @@ read_first t f =
 
 read_first_lem : (t : Ticket) (f : Ticket → Verdict) → read_first t f ≡ f t
 unfolding read_first
-read_first_lem t f = simp (first_is, firstℤ_is)
+read_first_lem t f = simp (first_operation_is, first_kind_is, first_is, firstℤ_is)
 
 -- what is said of a case, with its ticket read
 abbrev verdict : Case → Ticket → Verdict
@@ -406,7 +430,7 @@ verdict c t =
         let source : List ℕ = source_tray c s in
         let old : List ℕ = before c s in
         let dirty : List ℕ = scratch_of c 99 in
-        let work : Answer = Done (job_work t c.width c.height) in
+        let work : Answer = done_with (job_work t c.width c.height) in
         let given : Answer = judged c.bytes then judge_places t p (lengths source old dirty) then work in
         record {
           number = number_of given;
@@ -424,7 +448,7 @@ unfolding answer output_after scratch_after
 read_once_lem = λ i c. sym (read_first_lem (shown c.bytes) (verdict c)) i
 
 computed : map read_once table ≡ map by_table table
-unfolding first firstℤ read_first
+unfolding first firstℤ first_operation first_kind read_first
     shallow steep major_of minor_of
     nearest D shift period profile place landing step_of major_at
     within in_page count behind ahead
@@ -435,7 +459,7 @@ unfolding first firstℤ read_first
     judge_head judge_size judge_field operation_known line_known is_periodic divided
     coprime vector_allowed length_allowed origin_allowed phase_allowed
     judge_operation judge_line judge_vector judge_length judge_origin judge_phase judge_box
-    ticket-judging.judge_boxes judged box_places shown
+    ticket-judging.judge_boxes judged box_places operation_of kind_of operation_number periodic_kind shown
     covers hidden boxes_of box_allowed
     row_start byte_of pixel_in side_allowed allowed fits source_page output_page scratch_needed
     column_of row_of inside written_from written cleared

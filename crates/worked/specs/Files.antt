@@ -4,7 +4,7 @@
 -- before the file's. The work is 5: in each block of two steps one comparison each way, and one for the window that
 -- spans both.
 -- Assumes nothing.
-use Rattle.std.specs.Prelude.{◌≡◌, refl, ℕ, List, [], ◌∷◌, ◌++◌, replicate}
+use Rattle.std.specs.Prelude.{◌≡◌, refl, ℕ, List, [], ◌∷◌, ◌++◌, replicate, Result, Ok, Err}
 use Rattle.vectors.specs.Vector.{shallow, steep, major_of, minor_of}
 use Rattle.geometry.specs.Line.{nearest, D, shift, period, profile, place, landing, step_of, major_at}
 use Rattle.geometry.specs.Number.{within, in_page, count, ahead}
@@ -12,12 +12,12 @@ use Rattle.geometry.specs.Number as Number
 use Rattle.runs.specs.Span.{chosen}
 use Rattle.runs.specs.Block.{rightward, leftward, resulting}
 use Rattle.runs.specs.Scratch.{total}
-use Rattle.refusal.specs.Answer.{number_of, place_of, work_in, is_done, when_done}
+use Rattle.refusal.specs.Answer.{number_of, place_of, work_in, is_done, when_done, giving}
 use Rattle.refusal.specs.Chain.{unless, ◌then◌}
-use Rattle.refusal.specs.declared.Answer.{Answer}
-use Rattle.refusal.specs.declared.Answer.TheVariants.{Done, Refused}
 use Rattle.refusal.specs.declared.Later.TheVariants.{BadPixel}
+use Rattle.refusal.specs.declared.Refusal.{Refusal}
 use Rattle.refusal.specs.declared.Refusal.TheVariants.{BadPhase, OutputTooShort, Later}
+use Rattle.refusal.specs.declared.Refused.{Refused}
 use Rattle.fields.specs.Fields.{byte_at, number_at, signed16, signed_at, operation_in, line_in, dx_in, dy_in}
 use Rattle.fields.specs.Fields.{length_in, origin_in, phase_in, field_end}
 use Rattle.fields.specs.Vectors.{divided, coprime, vector_allowed, phase_allowed}
@@ -26,7 +26,7 @@ use Rattle.ticket.specs.Judging.{judge_head, judge_size, judge_field, operation_
 use Rattle.ticket.specs.Judging.{length_allowed, origin_allowed}
 use Rattle.ticket.specs.Judging.{judge_operation, judge_line, judge_vector, judge_length, judge_origin, judge_phase, judge_box}
 use Rattle.ticket.specs.Judging as tickets
-use Rattle.ticket.specs.Reading.{box_places, shown}
+use Rattle.ticket.specs.Reading.{operation_of, kind_of, periodic_kind, box_places, shown}
 use Rattle.boxes.specs.Boxes.{covers, hidden, boxes_of, box_allowed}
 use Rattle.placement.specs.Placement.{row_start, byte_of, pixel_in, column_of, row_of, inside, side_allowed, allowed, fits}
 use Rattle.placement.specs.Placement.{source_page, output_page, scratch_needed}
@@ -50,9 +50,9 @@ use Rattle.pgm.specs.Header.{from_delimiter, width_in, height_in, maximum_in, ma
 use Rattle.pgm.specs.Header.{judge_magic, judge_from_maximum, judge_header, judge_maximum}
 use Rattle.pgm.specs.Reading.{sound_pixels, image_pixels, judge_pixels, told, header_in}
 use Rattle.pgm.specs.Reading as pgm
-use Rattle.file.specs.FileJob.{file_page, file_answer, delivery, file_output_after, file_scratch_after}
+use Rattle.file.specs.FileJob.{file_page, file_answer, with_length, delivery, file_output_after, file_scratch_after}
 use Rattle.file.specs.Places.{header_for, places_of, file_length, headed}
-use Rattle.file.specs.declared.Delivery.{Delivery}
+use Rattle.file.specs.declared.Finished.{Finished}
 
 -- erode, connected, (1, 0), two steps, origin 0, this phase; and a box on column 1, row 0
 abbrev ticket : ℕ → List ℕ
@@ -69,7 +69,7 @@ abbrev finished : List ℕ
 finished = 80 ∷ 53 ∷ 10 ∷ 52 ∷ 10 ∷ 49 ∷ 10 ∷ 57 ∷ 10 ∷ 7 ∷ 9 ∷ 5 ∷ 9 ∷ []
 
 record Ran : Type 0 where
-  told : Delivery
+  told : Result Finished Refused
   output : List ℕ
   scratch : List ℕ
 
@@ -83,10 +83,10 @@ ran ticket file room =
     }
 
 -- a refused job: nothing is written
-abbrev refused : Answer → ℕ → Ran
-refused answer room =
+abbrev refused : Refusal → ℕ → ℕ → Ran
+refused refusal at room =
     record {
-      told = record { answer = answer; length = 0 };
+      told = Err (record { refusal = refusal; at = at });
       output = replicate room 200;
       scratch = replicate 21 100;
     }
@@ -94,25 +94,25 @@ refused answer room =
 worked_files :
     (ran (ticket 0) (file 3) 15 ∷ ran (ticket 0) (file 10) 15 ∷ ran (ticket 0) (file 3) 12 ∷ ran (ticket 1) [] 15 ∷ [])
     ≡ (record {
-      told = record { answer = Done 5; length = 13 };
+      told = Ok (record { work = 5; length = 13 });
       output = finished ++ (200 ∷ 200 ∷ []);
       scratch = replicate 20 0 ++ (100 ∷ []);
     }
-    ∷ refused (Refused (Later BadPixel) 10) 15
-    ∷ refused (Refused OutputTooShort 0) 12
-    ∷ refused (Refused BadPhase 25) 15
+    ∷ refused (Later BadPixel) 10 15
+    ∷ refused OutputTooShort 0 12
+    ∷ refused BadPhase 25 15
     ∷ [])
 unfolding shallow steep major_of minor_of
     nearest D shift period profile place landing step_of major_at
     within in_page count Number.behind ahead
     chosen rightward leftward resulting total
-    number_of place_of work_in is_done when_done unless ◌then◌
+    number_of place_of work_in is_done when_done giving unless ◌then◌
     byte_at number_at signed16 signed_at operation_in line_in dx_in dy_in
     length_in origin_in phase_in field_end box_at boxes_from boxes_in
     judge_head judge_size judge_field operation_known line_known is_periodic divided
     coprime vector_allowed length_allowed origin_allowed phase_allowed
     judge_operation judge_line judge_vector judge_length judge_origin judge_phase judge_box
-    tickets.judge_boxes tickets.judged box_places shown
+    tickets.judge_boxes tickets.judged box_places operation_of kind_of periodic_kind shown
     covers hidden boxes_of box_allowed
     row_start byte_of pixel_in side_allowed allowed fits source_page output_page scratch_needed
     column_of row_of inside written_from written cleared
@@ -128,6 +128,6 @@ unfolding shallow steep major_of minor_of
     width_in height_in maximum_in maximum_place pixels_start judge_magic judge_from_maximum judge_header judge_maximum
     sound_pixels image_pixels judge_pixels pgm.judged told header_in
     decimal_in decimal line header_of
-    file_page file_answer delivery file_output_after file_scratch_after
+    file_page file_answer with_length delivery file_output_after file_scratch_after
     header_for places_of file_length headed
 worked_files = refl

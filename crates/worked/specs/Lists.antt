@@ -11,10 +11,8 @@ use Rattle.geometry.specs.Number.{within, in_page, count, behind, ahead}
 use Rattle.runs.specs.Span.{chosen}
 use Rattle.runs.specs.Block.{rightward, leftward, resulting}
 use Rattle.runs.specs.Scratch.{total}
-use Rattle.refusal.specs.Answer.{number_of, place_of, work_in, is_done, when_done}
+use Rattle.refusal.specs.Answer.{number_of, place_of, work_in, is_done, when_done, Answer, done_with, refused_at}
 use Rattle.refusal.specs.Chain.{unless, ◌then◌}
-use Rattle.refusal.specs.declared.Answer.{Answer}
-use Rattle.refusal.specs.declared.Answer.TheVariants.{Done, Refused}
 use Rattle.refusal.specs.declared.Later.TheVariants.{TooManyJobs, NumbersTooFew}
 use Rattle.refusal.specs.declared.Refusal.TheVariants.{Later}
 use Rattle.fields.specs.Fields.{byte_at, number_at, signed16, signed_at, operation_in, line_in, dx_in, dy_in}
@@ -25,7 +23,7 @@ use Rattle.ticket.specs.Judging.{judge_head, judge_size, judge_field, operation_
 use Rattle.ticket.specs.Judging.{length_allowed, origin_allowed}
 use Rattle.ticket.specs.Judging.{judge_operation, judge_line, judge_vector, judge_length, judge_origin, judge_phase, judge_box}
 use Rattle.ticket.specs.Judging as tickets
-use Rattle.ticket.specs.Reading.{box_places, shown}
+use Rattle.ticket.specs.Reading.{operation_of, kind_of, periodic_kind, box_places, shown}
 use Rattle.boxes.specs.Boxes.{covers, hidden, boxes_of, box_allowed}
 use Rattle.placement.specs.Placement.{row_start, byte_of, pixel_in, column_of, row_of, inside, side_allowed, allowed, fits}
 use Rattle.placement.specs.Placement.{source_page, output_page, scratch_needed}
@@ -87,14 +85,14 @@ refused whole answers =
 worked_lists :
     (ran 3 769 ∷ ran 257 769 ∷ ran 4 768 ∷ ran 3 767 ∷ [])
     ≡ (record {
-      whole = Done 0;
+      whole = done_with 0;
       output = 1 ∷ 1 ∷ 4 ∷ 2 ∷ 2 ∷ 200 ∷ [];
       scratch = replicate 15 0 ++ (100 ∷ []);
       answers = (0 ∷ 0 ∷ 3 ∷ 1 ∷ 0 ∷ 0 ∷ 0 ∷ 0 ∷ 3 ∷ []) ++ replicate 759 0 ++ (7 ∷ []);
     }
-    ∷ refused (Refused (Later TooManyJobs) 0) (replicate 768 0 ++ (7 ∷ []))
-    ∷ refused (Refused (Later NumbersTooFew) 32) (replicate 768 7)
-    ∷ refused (Refused (Later NumbersTooFew) 768) (replicate 767 7)
+    ∷ refused (refused_at (Later TooManyJobs) 0) (replicate 768 0 ++ (7 ∷ []))
+    ∷ refused (refused_at (Later NumbersTooFew) 32) (replicate 768 7)
+    ∷ refused (refused_at (Later NumbersTooFew) 768) (replicate 767 7)
     ∷ [])
 unfolding shallow steep major_of minor_of
     nearest D shift period profile place landing step_of major_at
@@ -106,7 +104,7 @@ unfolding shallow steep major_of minor_of
     judge_head judge_size judge_field operation_known line_known is_periodic divided
     coprime vector_allowed length_allowed origin_allowed phase_allowed
     judge_operation judge_line judge_vector judge_length judge_origin judge_phase judge_box
-    tickets.judge_boxes tickets.judged box_places shown
+    tickets.judge_boxes tickets.judged box_places operation_of kind_of periodic_kind shown
     covers hidden boxes_of box_allowed
     row_start byte_of pixel_in side_allowed allowed fits source_page output_page scratch_needed
     column_of row_of inside written_from written cleared

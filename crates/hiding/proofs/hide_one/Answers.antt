@@ -7,21 +7,12 @@ use Rattle.tray.specs.declared.Rectangle.{Rectangle}
 use Rattle.hiding.proofs.Painting.{on_page_lem, painted_one}
 use Rattle.hiding.proofs.hide_one.Goals as goal
 
-pub rectangle_of-x-requires : goal.rectangle_of-x-requires
-rectangle_of-x-requires c =
+pub paint_box-requires-clause-rectangle_fits : goal.paint_box-requires-clause-rectangle_fits
+paint_box-requires-clause-rectangle_fits c =
+    let lay = c.args.lay in
     let lie = c.requires.lie in
-    (lie.each 0 no_box (omega arith), lie.width_most, lie.height_most)
-
-pub paint_box-requires : goal.paint_box-requires
-paint_box-requires c =
-    let lie = c.requires.lie in record {
-      rectangle_fits = subst (λ (x : Rectangle). RectangleFits x c.args.lay.width c.args.lay.height)
-          (sym c.rectangle_of-x.ensures) (on_page_lem _ _ _ (lie.each 0 no_box (omega arith)) lie.wide lie.high);
-      height_in_bounds = c.requires.room;
-    }
-
-pub shape_of-page : goal.shape_of-page
-shape_of-page c = c.paint_box.ensures.size
+    subst (λ (x : Rectangle). RectangleFits x lay.width lay.height) (sym c.rectangle_of-x.ensures)
+    (on_page_lem _ _ _ (lie.each 0 no_box (omega arith)) lie.wide lie.high)
 
 pub returns : goal.returns
 returns c =

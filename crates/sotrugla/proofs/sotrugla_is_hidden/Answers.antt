@@ -1,30 +1,47 @@
--- `sotrugla::sotrugla_is_hidden` meets its contract. Assumes nothing.
+-- `sotrugla::sotrugla_is_hidden` meets its contract: what hides of a ticket that is read, nothing of one that is refused.
+-- Assumes nothing.
 use mathlib.Core.Path.{◌≡◌, sym, ap, ◌∙◌}
 use mathlib.Core.Bool.{Bool, cond}
 use mathlib.Core.List.{List}
 use Prim.Native.Nat.{ℕ}
 use native.Mathlib.Omega.{arith}
-use Rattle.ticket.specs.Reading.{reading}
-use Rattle.ticket.specs.declared.Reading.{Reading}
+use Rattle.std.specs.Prelude.{Ok}
+use Rattle.refusal.specs.Answer.{is_done}
+use Rattle.refusal.specs.Chain.{when_done_lem}
+use Rattle.ticket.specs.Judging.{judged}
+use Rattle.ticket.specs.Laws.{read_good, read_refused}
+use Rattle.ticket.specs.Reading.{reading, shown}
+use Rattle.ticket.specs.declared.Ticket.{Ticket}
 use Rattle.boxes.specs.Boxes.{hidden, boxes_of}
-use Rattle.sotrugla.specs.Hiding.{hidden_by}
 use Rattle.showing.specs.Laws.{read_showable}
+use Rattle.sotrugla.specs.Hiding.{hidden_by, refused_hides_nothing}
 use Rattle.sotrugla.proofs.sotrugla_is_hidden.Goals as goal
 
-pub hides-hidden-requires : goal.hides-hidden-requires
-hides-hidden-requires c =
-    (read_showable c.args.ticket.now _ (λ k. omega (arith, c.type_inv.ticket k)) c.read-reading.ensures).count_to
+pub hides-requires : goal.hides-requires
+hides-requires c =
+    (read_showable c.args.ticket.now _ (λ k. omega (arith, c.type_inv.ticket k)) (sym c.read.ensures ∙ c.in-Ok.is)).count_to
 
 -- what was asked of the ticket as read, and how it was answered
-told : (s : List ℕ) (column row : ℕ) (read : Reading) (asked found : Bool) → read ≡ reading s
-    → asked ≡ hidden (boxes_of read.ticket) column row
+answered : (s : List ℕ) (t : Ticket) (column row : ℕ) {asked found : Bool} → reading s ≡ Ok t
+    → asked ≡ hidden (boxes_of t) column row
     → asked ≡ found
     → cond found 1 0 ≡ hidden_by s column row
-told s column row read asked found e hides answer =
-    ap (λ (b : Bool). cond b 1 0) (sym answer ∙ hides ∙ ap (λ (x : Reading). hidden (boxes_of x.ticket) column row) e)
+answered s t column row {asked} {found} is hides answer =
+    let good = read_good s t is in
+    ap (λ (b : Bool). cond b 1 0)
+    (sym answer ∙ hides ∙ ap (λ (q : Ticket). hidden (boxes_of q) column row) (sym good.1))
+    ∙ sym (when_done_lem (judged s) (cond (hidden (boxes_of (shown s)) column row) 1 0) 0 good.0)
 
-pub returns-then-hidden : goal.returns-then-hidden
-returns-then-hidden c = told _ _ _ _ _ _ c.read-reading.ensures c.hides-hidden.ensures c.if-hidden.true
+pub returns-then-hides : goal.returns-then-hides
+returns-then-hides c =
+    answered _ _ _ _ (sym c.read.ensures ∙ c.in-Ok.is) c.hides.ensures c.if-hides.true
 
-pub returns-else-hidden : goal.returns-else-hidden
-returns-else-hidden c = told _ _ _ _ _ _ c.read-reading.ensures c.hides-hidden.ensures c.if-hidden.false
+pub returns-else-hides : goal.returns-else-hides
+returns-else-hides c =
+    answered _ _ _ _ (sym c.read.ensures ∙ c.in-Ok.is) c.hides.ensures c.if-hides.false
+
+pub returns-in-Err : goal.returns-in-Err
+unfolding is_done
+returns-in-Err c =
+    let refused = read_refused c.args.ticket.now _ (sym c.read.ensures ∙ c.in-Err.is) in
+    sym (refused_hides_nothing c.args.ticket.now c.args.column c.args.row (ap is_done refused))

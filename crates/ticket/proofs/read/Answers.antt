@@ -1,14 +1,12 @@
 -- `ticket::read` meets its contract. Assumes nothing.
-use mathlib.Core.Path.{sym, ◌∙◌}
-use Rattle.ticket.proofs.Records.{reads_good, reads_refused}
+use Rattle.refusal.specs.Chain.{giving_passed, giving_ended}
+use Rattle.ticket.specs.Reading.{reading}
 use Rattle.ticket.proofs.read.Goals as goal
 
-pub returns-then-is_done : goal.returns-then-is_done
-returns-then-is_done c =
-    let done = sym c.is_done.ensures ∙ c.if-is_done.true in
-    reads_good c.args.ticket.now c.judge-answer.ensures done c.show-shown.ensures
+pub returns : goal.returns
+unfolding reading
+returns c = giving_passed c.in_ok-judge.was c.judge.ensures c.show.ensures
 
-pub returns-else-is_done : goal.returns-else-is_done
-returns-else-is_done c =
-    let refused = sym c.is_done.ensures ∙ c.if-is_done.false in
-    reads_refused c.args.ticket.now c.judge-answer.ensures refused c.blank_ticket-blank.ensures
+pub returns-in_err-judge : goal.returns-in_err-judge
+unfolding reading
+returns-in_err-judge c = giving_ended _ c.in_err-judge.was c.judge.ensures c.from_residual.ensures.1

@@ -4,13 +4,22 @@ use Rattle.batch.proofs.Running.{answers_short, too_many, numbers_short, all_cal
 use Rattle.batch.proofs.run.run.Goals as goal
 
 pub returns-then-answers-lt-ANSWERS : goal.returns-then-answers-lt-ANSWERS
-returns-then-answers-lt-ANSWERS c = let whole = answers_short _ _ _ (omega (arith, c.if-answers-lt-ANSWERS.true)) in record { answered = whole.0; written = whole.1.0; cleared = whole.1.1.0; told = whole.1.1.1 }
+returns-then-answers-lt-ANSWERS c =
+    let whole = answers_short _ _ _ (omega (arith, c.if-answers-lt-ANSWERS.true)) in
+    record { answered = whole.answered; written = whole.written; cleared = whole.cleared; told = whole.told }
 
 pub returns-then-count-gt-MOST_JOBS : goal.returns-then-count-gt-MOST_JOBS
-returns-then-count-gt-MOST_JOBS c = let whole = too_many _ _ _ (omega arith) _ (omega arith) c.clear.ensures in record { answered = whole.0; written = whole.1.0; cleared = whole.1.1.0; told = whole.1.1.1 }
+returns-then-count-gt-MOST_JOBS c =
+    let whole = too_many _ _ _ (omega arith) _ (omega arith) c.clear.ensures in
+    record { answered = whole.answered; written = whole.written; cleared = whole.cleared; told = whole.told }
 
 pub returns-then-jobs-needed : goal.returns-then-jobs-needed
-returns-then-jobs-needed c = let whole = numbers_short _ _ _ (omega arith) (omega arith) (omega arith) in record { answered = whole.0; written = whole.1.0; cleared = whole.1.1.0; told = whole.1.1.1 }
+returns-then-jobs-needed c =
+    let whole = numbers_short _ _ _ (omega arith) (omega arith) (omega arith) in
+    record { answered = whole.answered; written = whole.written; cleared = whole.cleared; told = whole.told }
 
 pub returns : goal.returns
-returns c = let whole = all_called _ _ _ (omega arith) _ _ _ (omega arith) (omega arith) c.clear-2.ensures c.run_jobs.ensures in record { answered = whole.0; written = whole.1.0; cleared = whole.1.1.0; told = whole.1.1.1 }
+returns c =
+    let whole =
+    all_called _ _ _ (omega arith) _ _ _ (omega arith) (omega arith) c.clear-2.ensures c.run_jobs.ensures in
+    record { answered = whole.answered; written = whole.written; cleared = whole.cleared; told = whole.told }

@@ -20,7 +20,7 @@ loop-k-preserved c =
     c.run_one-a.ensures c.put.ensures
 
 pub returns : goal.returns
-returns c = all_run _ _ _ c.loop-k.k _ _ (omega (arith, c.loop-k.invariant.most)) c.loop-k.invariant
+returns c = all_run _ _ _ c.loop-k.k _ _ (omega arith) c.loop-k.invariant
 
 pub loop-k-init : goal.loop-k-init
 loop-k-init c = none_run _ _ _

@@ -1,17 +1,31 @@
--- `file::run::run` meets its contract: the ticket read, then the job on the file. Assumes nothing.
+-- `file::run::run` meets its contract: the ticket read, then the file, then its page delivered. Assumes nothing.
 use native.Mathlib.Omega.{arith}
 use mathlib.Core.Path.{sym, ◌∙◌}
+use Rattle.refusal.specs.Chain.{handed_on}
 use Rattle.ticket.specs.Laws.{read_allowed}
-use Rattle.file.proofs.Running.{ticket_refused, ticket_read}
+use Rattle.file.proofs.Running.{ticket_refused, file_refused, file_delivered}
 use Rattle.file.proofs.run.run.Goals as goal
 
-pub returns-then-not-is_done : goal.returns-then-not-is_done
-returns-then-not-is_done c = let whole = ticket_refused _ _ _ _ _ c.read-reading.ensures _ c.refused.ensures (sym c.is_done.ensures ∙ c.if-not-is_done.true) in record { answered = whole.0; written = whole.1.0; cleared = whole.1.1 }
+pub returns-in_err-order : goal.returns-in_err-order
+returns-in_err-order c =
+    let ticket = sym c.read.ensures ∙ c.in_err-order.was in
+    let whole = ticket_refused _ _ _ _ ticket (handed_on c.from_residual.ensures.1) in
+    record { answered = whole.answered; written = whole.written; cleared = whole.cleared }
 
-pub run_read-requires : goal.run_read-requires
-run_read-requires c =
-    read_allowed _ _ (λ k. omega (arith, c.type_inv.ticket k)) c.read-reading.ensures (sym c.is_done.ensures ∙ c.if-not-is_done.false)
+pub returns-in_err-header : goal.returns-in_err-header
+returns-in_err-header c =
+    let ticket = sym c.read.ensures ∙ c.in_ok-order.was in
+    let file = sym c.read-2.ensures ∙ c.in_err-header.was in
+    let whole = file_refused _ _ _ _ ticket file (handed_on c.from_residual-in_err-header.ensures.1) in
+    record { answered = whole.answered; written = whole.written; cleared = whole.cleared }
+
+pub deliver-requires : goal.deliver-requires
+deliver-requires c =
+    read_allowed _ _ (λ k. omega (arith, c.type_inv.ticket k)) (sym c.read.ensures ∙ c.in_ok-order.was)
 
 pub returns : goal.returns
-returns c = let whole = ticket_read _ _ _ _ _ c.read-reading.ensures
-    (sym c.is_done.ensures ∙ c.if-not-is_done.false) _ _ _ c.run_read.ensures in record { answered = whole.0; written = whole.1.0; cleared = whole.1.1 }
+returns c =
+    let ticket = sym c.read.ensures ∙ c.in_ok-order.was in
+    let file = sym c.read-2.ensures ∙ c.in_ok-header.was in
+    let whole = file_delivered _ _ _ _ ticket file c.deliver.ensures in
+    record { answered = whole.answered; written = whole.written; cleared = whole.cleared }

@@ -8,6 +8,6 @@ pub returns-then-low : goal.returns-then-low
 unfolding back_of
 returns-then-low c = rw c.if-low.true refl
 
-pub returns : goal.returns
+pub returns-else-low : goal.returns-else-low
 unfolding back_of dilation_back
-returns c = rw c.if-low.false refl
+returns-else-low c = rw c.if-low.false refl

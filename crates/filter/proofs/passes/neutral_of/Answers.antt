@@ -7,6 +7,6 @@ pub returns-then-low : goal.returns-then-low
 unfolding neutral
 returns-then-low c = rw c.if-low.true refl
 
-pub returns : goal.returns
+pub returns-else-low : goal.returns-else-low
 unfolding neutral
-returns c = rw c.if-low.false refl
+returns-else-low c = rw c.if-low.false refl

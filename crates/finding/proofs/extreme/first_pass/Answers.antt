@@ -1,10 +1,13 @@
 -- `extreme::first_pass` meets its contract. Assumes nothing.
-use mathlib.Core.Path.{◌∙◌}
+use Rattle.std.proofs.Common.{ℕ, ◌-◌, ◌∙◌, ap, arith, drop, take}
 use Rattle.finding.proofs.Laws.{first_absent, first_there}
 use Rattle.finding.proofs.extreme.first_pass.Goals as goal
 
-pub returns-then-row-i-eq-ABSENT : goal.returns-then-row-i-eq-ABSENT
-returns-then-row-i-eq-ABSENT c = first_absent _ _ _ c.if-row-i-eq-ABSENT.true
+pub returns-in-None : goal.returns-in-None
+returns-in-None c = first_absent _ _ _ c.in-None.is
 
-pub returns : goal.returns
-returns c = c.extreme_of.ensures ∙ first_there _ _ _ c.if-row-i-eq-ABSENT.false
+pub returns-in-Some : goal.returns-in-Some
+returns-in-Some c =
+    let from : ℕ = c.args.i - c.args.s.back in
+    let window = ap (λ (n : ℕ). take n (drop from c.args.row.now)) (omega arith) in
+    c.extreme_of.ensures ∙ first_there _ _ _ _ c.requires c.in-Some.is _ window

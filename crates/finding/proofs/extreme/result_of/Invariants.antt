@@ -1,21 +1,16 @@
--- `extreme::result_of` meets its contract. The invariant: the extreme of the first passes from place k on.
+-- `extreme::result_of` meets its contract. The invariant: the extreme of the first passes from place i on.
 -- Assumes nothing.
-use mathlib.Core.Path.{◌≡◌}
-use mathlib.Core.Bool.{not}
-use mathlib.Core.List.{List}
-use mathlib.Core.Option.{Option}
-use Prim.Native.Nat.{ℕ, ◌+◌, ◌-◌, ◌≤◌}
+use Rattle.std.proofs.Common.{◌≡◌, ℕ, ◌+◌, ◌-◌, ◌≤◌, not, List, Option}
+use Rattle.std.proofs.Math.Option as maybe
 use Rattle.filter.specs.Filters.{extreme}
-use Rattle.finding.specs.Row.{value_of, in_row, pass_in}
+use Rattle.finding.specs.Row.{in_row, pass_in, value_of}
 use Rattle.finding.specs.declared.Search.{Search}
 use Rattle.finding.proofs.extreme.result_of.Given as goal
 
-abbrev pub passes : Search → List ℕ → ℕ → Option ℕ
+abbrev pub passes : Search → List (Option ℕ) → ℕ → maybe.Option ℕ
 passes s row = pass_in s.low s.back s.length (in_row row)
 
-abbrev pub invariant-loop-k : goal.invariant-loop-k
-invariant-loop-k l =
-    (l.k ≤ l.s.steps) × (l.most ≡ value_of (extreme (not l.s.low) (passes l.s l.row) (l.s.from + l.k) (l.s.steps - l.k)))
-
-abbrev pub decreases-loop-k : goal.decreases-loop-k
-decreases-loop-k l = l.k
+abbrev pub invariant-loop-i : goal.invariant-loop-i
+invariant-loop-i l =
+    (l.s.from ≤ l.i)
+    × (l.most ≡ value_of (extreme (not l.s.low) (passes l.s l.row) l.i (l.s.from + l.s.steps - l.i)))

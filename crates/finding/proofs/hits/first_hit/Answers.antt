@@ -2,58 +2,48 @@
 -- and no place of its window before `from` has it. Neither loop runs to its end: the result is given somewhere, and
 -- where it is given it stands in the window.
 -- Assumes nothing.
-use mathlib.Core.Path.{sym, ◌∙◌}
-use native.Mathlib.Omega.{arith}
-use Rattle.finding.proofs.Laws.{fits_lies}
-use Rattle.finding.proofs.Ending.{NoneBefore, none_more, window_ended, search_ended, hit_found}
+use Rattle.std.proofs.Common.{◌≡◌, sym, ◌∙◌, arith, false, eqb, IsSome}
+use Rattle.std.specs.Option.{option_eq}
+use Rattle.std.proofs.lemmas.Bool.{not-false, not-true}
+use borrow.Author.Count.{below_more}
+use Rattle.finding.specs.Row.{first_pass}
+use Rattle.finding.proofs.Laws.{same_value}
+use Rattle.finding.proofs.Ending.{window_ended, search_ended, hit_found}
 use Rattle.finding.proofs.hits.first_hit.Goals as goal
 
-pub search-init : goal.search-init
-unfolding NoneBefore
-search-init c = (omega arith, omega arith, λ k below from. absurd (omega arith))
+pub loop-through-init : goal.loop-through-init
+loop-through-init c = λ k below from. absurd (omega arith)
 
-pub first_pass-requires : goal.first_pass-requires
-first_pass-requires c =
-    fits_lies c.args.s _ _ c.requires.fits (omega arith) (omega arith)
-
-pub search-preserved-then-first_pass-grey : goal.search-preserved-then-first_pass-grey
-search-preserved-then-first_pass-grey c =
-    let at = c.search in (
-      omega arith,
-      omega arith,
-      none_more _ _ _ at.through at.invariant.2 (λ e. c.if-first_pass-grey.true (c.first_pass.ensures ∙ e)),
-    )
+pub loop-through-preserved-then-ne : goal.loop-through-preserved-then-ne
+loop-through-preserved-then-ne c =
+    let i = c.loop-through.through in
+    let other : option_eq eqb (first_pass c.args.s c.args.row.now i) c.result_of-grey.result ≡ false =
+    not-true _ (sym (rw c.first_pass.ensures at c.ne.ensures) ∙ c.if-ne.true) in
+    below_more _ _ c.loop-through.invariant (λ from. other)
 
 pub loop-from-init : goal.loop-from-init
-unfolding NoneBefore
-loop-from-init c = (omega arith, omega arith, λ k below from. absurd (omega arith))
+loop-from-init c = λ k below from. absurd (omega arith)
 
 pub loop-from-preserved : goal.loop-from-preserved
 loop-from-preserved c =
-    let at = c.loop-from in
-    (omega arith, omega arith, none_more _ _ _ at.from at.invariant.2 c.if-row-from.false)
+    below_more _ _ c.loop-from.invariant (λ from. sym c.eq.ensures ∙ c.if-eq.false)
 
-pub search-preserved : goal.search-preserved
-search-preserved c =
-    let at = c.loop-from in
+pub loop-through-preserved : goal.loop-through-preserved
+loop-through-preserved c =
+    let given = c.result_of-grey.ensures in
+    let there : IsSome c.result_of-grey.result = rw given c.requires.row_bound in
+    let gives = not-false _ (sym c.ne.ensures ∙ c.if-ne.false) in
     absurd
-    (window_ended c.args.s c.args.row.now _ _ at.from (omega arith)
-    (sym c.first_pass.ensures ∙ c.if-first_pass-grey.false) (omega arith) at.invariant.2)
+    (window_ended c.args.s c.args.row.now _ _ there (sym c.first_pass.ensures ∙ same_value _ _ gives)
+    (λ k below from. c.loop-from.invariant k (omega arith) from))
 
-pub returns-after-search : goal.returns-after-search
-returns-after-search c =
-    let at = c.search in
-    let given = c.result_of-grey in
-    absurd
-    (search_ended c.args.s c.args.row.now _ at.through (omega arith) given.ensures (omega arith)
-    at.invariant.2)
+pub unreachable-requires : goal.unreachable-requires
+unreachable-requires c =
+    search_ended c.args.s c.args.row.now _ c.requires.row_bound c.result_of-grey.ensures
+    (λ k below from. c.loop-through.invariant k (omega arith) from)
 
-pub returns-then-row-from : goal.returns-then-row-from
-returns-then-row-from c =
-    let at = c.loop-from in
-    let outer = c.search in
-    let given = c.result_of-grey in
-    let again = c.if-first_pass-grey.false in
-    hit_found c.args.s c.args.row.now _ outer.through at.from given.ensures (omega arith)
-    (omega arith) outer.invariant.2 (sym c.first_pass.ensures ∙ again) (omega arith) (omega arith) at.invariant.2
-    c.if-row-from.true
+pub returns : goal.returns
+returns c =
+    let gives = not-false _ (sym (rw c.first_pass.ensures at c.ne.ensures) ∙ c.if-ne.false) in
+    hit_found c.args.s c.args.row.now _ _ _ c.result_of-grey.ensures (omega arith) (omega arith)
+    c.loop-through.invariant gives (omega arith) (omega arith) c.loop-from.invariant (sym c.eq.ensures ∙ c.if-eq.true)

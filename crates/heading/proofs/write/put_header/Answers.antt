@@ -1,9 +1,6 @@
 -- `heading::write::put_header` meets its contract: the first line, and three lines behind it. Assumes nothing.
-use mathlib.Core.Path.{refl, ap}
-use Prim.Native.Nat.{◌+◌, ◌≤◌}
-use native.Mathlib.Omega.{arith}
-use lib.ListN.{length, length-set}
-use lib.Seq.{length-sets}
+use Rattle.std.proofs.Common.{◌+◌, ◌≤◌, length, refl, ap, arith, length-set}
+use Rattle.std.proofs.Math.Seq.{length-sets}
 use Rattle.heading.specs.Decimal.{length_line, length_header}
 use Rattle.heading.specs.Writing.{decimal, line}
 use Rattle.heading.proofs.Stores.{header_put}
@@ -27,61 +24,42 @@ room start =
     )
 
 pub bounds-output-0 : goal.bounds-output-0
-bounds-output-0 c = omega (arith, room c.before)
+bounds-output-0 c = omega (arith, room (goal.at.bounds-output-0 c).Start)
 
 pub bounds-output-1 : goal.bounds-output-1
-bounds-output-1 c = simp length-set (omega (arith, room c.before))
+bounds-output-1 c = simp length-set (omega (arith, room (goal.at.bounds-output-1 c).Start))
 
 pub bounds-output-2 : goal.bounds-output-2
-bounds-output-2 c = simp length-set (omega (arith, room c.before))
+bounds-output-2 c = simp length-set (omega (arith, room (goal.at.bounds-output-2 c).Start))
 
 pub put_line-second-requires : goal.put_line-second-requires
-put_line-second-requires c = simp length-set (omega (arith, room c.before.before))
+put_line-second-requires c = simp length-set (omega (arith, room (goal.at.put_line-second-requires c).Start))
 
 pub put_line-third-requires : goal.put_line-third-requires
 put_line-third-requires c =
-    let one = c.before.before.before in
     omega (
       arith,
-      room one.before.before.before,
-      simp (length-sets, length-set) at (ap length one.put_line-second.ensures.content),
+      room (goal.at.put_line-third-requires c).Start,
+      simp (length-sets, length-set) at (ap length c.put_line-second.ensures.content),
     )
 
 pub put_line-requires : goal.put_line-requires
 put_line-requires c =
-    let two = c.before.before.before in
-    let one = two.before.before.before.before in
     omega (
       arith,
-      room one.before.before.before,
-      simp (length-sets, length-set) at (ap length one.put_line-second.ensures.content),
-      simp length-sets at (ap length two.put_line-third.ensures.content),
-    )
-
-pub shape_of-output : goal.shape_of-output
-shape_of-output c =
-    let three = c.before.before in
-    let two = three.before.before.before.before in
-    let one = two.before.before.before.before in
-    omega (
-      arith,
-      simp (length-sets, length-set) at (ap length one.put_line-second.ensures.content),
-      simp length-sets at (ap length two.put_line-third.ensures.content),
-      simp length-sets at (ap length three.put_line.ensures.content),
+      room (goal.at.put_line-requires c).Start,
+      simp (length-sets, length-set) at (ap length c.put_line-second.ensures.content),
+      simp length-sets at (ap length c.put_line-third.ensures.content),
     )
 
 pub returns : goal.returns
 returns c =
-    let three = c.before.before in
-    let two = three.before.before.before.before in
-    let one = two.before.before.before.before in
-    let start = one.before.before.before in
-    let a = start.args in
+    let a = c.args in
     header_put a.width a.height a.maximum a.output.now _ _ _ _ _ _
     refl
-    one.put_line-second.ensures.content
-    one.put_line-second.ensures.place
-    two.put_line-third.ensures.content
-    two.put_line-third.ensures.place
-    three.put_line.ensures.content
-    start.requires
+    c.put_line-second.ensures.content
+    c.put_line-second.ensures.place
+    c.put_line-third.ensures.content
+    c.put_line-third.ensures.place
+    c.put_line.ensures.content
+    c.requires

@@ -18,15 +18,15 @@ scratch_needed-used-requires c =
 
 pub clear-requires : goal.clear-requires
 clear-requires c =
-    omega (
-      arith,
-      used_room c.args.t c.args.p _ _ _ c.requires _ (needed_as c.args.t c.args.p _ _ c.pages_of.ensures c.scratch_needed-used.ensures),
-      c.filter-work.ensures.same_length,
-    )
+    let t = c.args.t in
+    let p = c.args.p in
+    let needed = needed_as t p _ _ c.pages_of.ensures c.scratch_needed-used.ensures in
+    omega (arith, used_room t p _ _ _ c.requires _ needed, c.filter-work.ensures.same_length)
 
 pub returns : goal.returns
 returns c =
-    finished_all _ _ _ _ _ _ _ _ _ _ c.requires _ _ _ _ c.recipe_of-how.ensures c.source_page-from.ensures c.output_page-to.ensures
+    finished_all _ _ _ _ _ _ _ _ _ _ c.requires _ _ _ _ c.recipe_of-how.ensures c.source_page-from.ensures
+    c.output_page-to.ensures
     (needed_as c.args.t c.args.p _ _ c.pages_of.ensures c.scratch_needed-used.ensures)
     c.filter-work.ensures
     c.clear.ensures

@@ -18,4 +18,4 @@ returns c =
       count = t.count;
       boxes = t.boxes;
     })
-    c.line_of-line.ensures
+    c.line_of.ensures

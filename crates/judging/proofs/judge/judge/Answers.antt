@@ -1,36 +1,48 @@
 -- `judging::judge::judge` meets its contract: sides first, then the rest in order. Assumes nothing.
-use mathlib.Core.Path.{sym, ap, ap₂, ◌∙◌}
-use Prim.Native.Nat.{ℕ}
+use mathlib.Core.Path.{refl, sym, ap, ◌∙◌}
 use Rattle.refusal.specs.Answer.{is_done}
-use Rattle.refusal.specs.Chain.{◌then◌, then_on, then_stop}
-use Rattle.judging.specs.Judging.{judge_places, judge_scratch}
+use Rattle.refusal.specs.Chain.{then_passed, then_ended, ok_done}
+use Rattle.judging.specs.Judging.{judge_places}
 use Rattle.judging.proofs.Sides.{scratch_as}
 use Rattle.judging.proofs.judge.judge.Goals as goal
 
-pub returns-then-not-is_done : goal.returns-then-not-is_done
-unfolding judge_places
-returns-then-not-is_done c =
-    let sides = c.judge_sides-sides.ensures in
-    let refused = ap is_done (sym sides) ∙ sym c.is_done.ensures ∙ c.if-not-is_done.true in
-    sides ∙ sym (then_stop _ _ refused)
-
-pub judge_scratch-scratch-requires : goal.judge_scratch-scratch-requires
-judge_scratch-scratch-requires c =
-    let a = c.args in
-    let done = ap is_done (sym c.judge_sides-sides.ensures) ∙ sym c.is_done.ensures ∙ c.if-not-is_done.false in
-    scratch_as a.t a.p _ c.pages_of.ensures done
+pub judge_scratch-requires : goal.judge_scratch-requires
+judge_scratch-requires c =
+    let done = ap is_done (sym c.judge_sides.ensures ∙ c.in_ok-judge_sides.was) ∙ ok_done _ in
+    scratch_as c.args.t c.args.p _ c.pages_of.ensures done
 
 pub returns : goal.returns
 unfolding judge_places
 returns c =
-    let a = c.args in
-    let done = ap is_done (sym c.judge_sides-sides.ensures) ∙ sym c.is_done.ensures ∙ c.if-not-is_done.false in
-    let later =
-    c.first_refusal-3.ensures
-    ∙ ap₂ ◌then◌ c.judge_source-source.ensures
-    (c.first_refusal-2.ensures
-    ∙ ap₂ ◌then◌ c.judge_output-output.ensures
-    (c.first_refusal.ensures
-    ∙ ap₂ ◌then◌ (c.judge_scratch-scratch.ensures ∙ ap (λ (k : ℕ). judge_scratch k a.p.width a.p.height a.n.scratch) c.pages_of.ensures) c.judge_boxes-boxes.ensures))
-    in
-    later ∙ sym (then_on _ _ done)
+    then_passed c.in_ok-judge_sides.was c.judge_sides.ensures
+    (then_passed c.in_ok-judge_source.was c.judge_source.ensures
+    (then_passed c.in_ok-judge_output.was c.judge_output.ensures
+    (then_passed c.in_ok-judge_scratch.was (rw (c.judge_scratch.ensures, c.pages_of.ensures) refl)
+    c.judge_boxes.ensures)))
+
+pub returns-in_err-judge_sides : goal.returns-in_err-judge_sides
+unfolding judge_places
+returns-in_err-judge_sides c =
+    then_ended _ c.in_err-judge_sides.was c.judge_sides.ensures c.from_residual.ensures.1
+
+pub returns-in_err-judge_source : goal.returns-in_err-judge_source
+unfolding judge_places
+returns-in_err-judge_source c =
+    then_passed c.in_ok-judge_sides.was c.judge_sides.ensures
+    (then_ended _ c.in_err-judge_source.was c.judge_source.ensures c.from_residual-in_err-judge_source.ensures.1)
+
+pub returns-in_err-judge_output : goal.returns-in_err-judge_output
+unfolding judge_places
+returns-in_err-judge_output c =
+    then_passed c.in_ok-judge_sides.was c.judge_sides.ensures
+    (then_passed c.in_ok-judge_source.was c.judge_source.ensures
+    (then_ended _ c.in_err-judge_output.was c.judge_output.ensures c.from_residual-in_err-judge_output.ensures.1))
+
+pub returns-in_err-judge_scratch : goal.returns-in_err-judge_scratch
+unfolding judge_places
+returns-in_err-judge_scratch c =
+    then_passed c.in_ok-judge_sides.was c.judge_sides.ensures
+    (then_passed c.in_ok-judge_source.was c.judge_source.ensures
+    (then_passed c.in_ok-judge_output.was c.judge_output.ensures
+    (then_ended _ c.in_err-judge_scratch.was (rw (c.judge_scratch.ensures, c.pages_of.ensures) refl)
+    c.from_residual-in_err-judge_scratch.ensures.1)))

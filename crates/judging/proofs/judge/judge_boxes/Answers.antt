@@ -1,36 +1,32 @@
 -- `judging::judge::judge_boxes` meets its contract: 14 at the first box that is not allowed. Assumes nothing.
 use mathlib.Core.Path.{sym, ap, ◌∙◌}
-use Prim.Native.Nat.{◌≤◌, ◌<◌}
 use native.Mathlib.Nat.{zero-add}
 use native.Mathlib.Omega.{arith}
-use lib.ListN.{length}
-use Rattle.refusal.specs.declared.Answer.TheVariants.{Refused}
+use Rattle.refusal.specs.Answer.{refused_at}
 use Rattle.refusal.specs.declared.Refusal.TheVariants.{BadBox}
 use Rattle.boxes.specs.Boxes.{boxes_of}
-use Rattle.boxes.specs.First.{first_of}
+use Rattle.boxes.specs.First.{found_some, found_none}
 use Rattle.judging.specs.Judging.{judge_page_boxes}
-use Rattle.judging.proofs.Boxes.{refused, first_refused, none_refused, boxes_counted}
+use Rattle.judging.proofs.Boxes.{refused, first_refused, none_refused}
 use Rattle.judging.proofs.judge.judge_boxes.Goals as goal
 
-pub first_refused-first-requires : goal.first_refused-first-requires
-first_refused-first-requires c = c.requires.0
+pub first_refused-requires : goal.first_refused-requires
+first_refused-requires c = c.requires.0
 
-pub returns-then-first-t : goal.returns-then-first-t
+pub returns-in-Some : goal.returns-in-Some
 unfolding judge_page_boxes
-returns-then-first-t c =
+returns-in-Some c =
     let a = c.args in
-    let pre = c.requires in
-    let found = c.first_refused-first.ensures in
-    let counted = boxes_counted a.t pre.0 pre.1 in
-    let below : first_of (refused a.width a.height) (boxes_of a.t) < length (boxes_of a.t) = omega (arith, found, counted, c.if-first-t.true) in
-    ap (Refused BadBox) (found ∙ sym (zero-add _)) ∙ sym (first_refused a.width a.height 0 (boxes_of a.t) below)
+    let boxes = boxes_of a.t in
+    let found =
+    found_some (refused a.width a.height) boxes c.in-Some.first (sym c.first_refused.ensures ∙ c.in-Some.is) in
+    ap (refused_at BadBox) (sym found.0 ∙ sym (zero-add _))
+    ∙ sym (first_refused a.width a.height 0 boxes (omega (arith, found.0, found.1)))
 
-pub returns : goal.returns
+pub returns-in-None : goal.returns-in-None
 unfolding judge_page_boxes
-returns c =
+returns-in-None c =
     let a = c.args in
-    let pre = c.requires in
-    let found = c.first_refused-first.ensures in
-    let counted = boxes_counted a.t pre.0 pre.1 in
-    let above : length (boxes_of a.t) ≤ first_of (refused a.width a.height) (boxes_of a.t) = omega (arith, found, counted, c.if-first-t.false) in
-    sym (none_refused a.width a.height 0 (boxes_of a.t) above)
+    let boxes = boxes_of a.t in
+    let none = found_none (refused a.width a.height) boxes (sym c.first_refused.ensures ∙ c.in-None.is) in
+    sym (none_refused a.width a.height 0 boxes (omega (arith, none)))

@@ -1,16 +1,8 @@
 -- `judging::judge::judge_output` meets its contract. Assumes nothing.
-use mathlib.Core.Path.{ap, ◌∙◌}
-use mathlib.Core.Bool.{Bool}
-use Rattle.refusal.specs.Chain.{unless}
-use Rattle.refusal.specs.declared.Refusal.TheVariants.{OutputTooShort}
-use Rattle.placement.specs.Placement.{fits}
-use Rattle.placement.specs.declared.Placement.{Placement}
+use mathlib.Core.Path.{refl}
 use Rattle.judging.specs.Judging.{judge_output}
 use Rattle.judging.proofs.judge.judge_output.Goals as goal
 
 pub returns : goal.returns
 unfolding judge_output
-returns c =
-    let length = c.args.length in
-    c.refuse_unless.ensures
-    ∙ ap (λ (test : Bool). unless test OutputTooShort 0) (c.does_fit-fits.ensures ∙ ap (λ (q : Placement). fits q length) c.output_page.ensures)
+returns c = rw (c.refuse_unless.ensures, c.does_fit-fits.ensures, c.output_page.ensures) refl

@@ -1,37 +1,69 @@
 -- `pgm::fields::read_header` meets its contract: a header that is good has a maximum of one byte. Assumes nothing.
-use mathlib.Core.Path.{sym, ◌∙◌}
+use mathlib.Core.Path.{sym, ap, ◌∙◌}
 use native.Mathlib.Omega.{arith}
-use Rattle.pgm.proofs.Headers.{magic_long, magic_shown, refused_shown, maximum_byte, end_within, good_shown}
+use Rattle.refusal.specs.Answer.{is_done}
+use Rattle.refusal.specs.Chain.{handed_on}
+use Rattle.pgm.proofs.Scans.{here}
+use Rattle.pgm.proofs.Headers.{magic_long, magic_refused, width_refused, height_refused, maximum_refused}
+use Rattle.pgm.proofs.Headers.{maximum_stands, maximum_byte, end_within, header_told}
 use Rattle.pgm.proofs.fields.read_header.Goals as goal
 
-pub returns-then-not-is_done : goal.returns-then-not-is_done
-returns-then-not-is_done c =
-    let refused = sym c.is_done.ensures ∙ c.if-not-is_done.true in
-    magic_shown _ _ refused c.shown.ensures c.judge_magic-magic.ensures
+pub returns-in_err-judge_magic : goal.returns-in_err-judge_magic
+returns-in_err-judge_magic c =
+    magic_refused _ (handed_on c.from_residual.ensures.1) (sym c.judge_magic.ensures ∙ c.in_err-judge_magic.was)
 
-pub read_fields-fields-requires : goal.read_fields-fields-requires
-read_fields-fields-requires c =
-    let magic = c.judge_magic-magic.ensures in
-    let done = sym c.is_done.ensures ∙ c.if-not-is_done.false in
-    (magic_long _ (rw magic at done), magic)
+pub next-requires : goal.next-requires
+unfolding is_done
+next-requires c = magic_long _ (ap is_done (sym c.judge_magic.ensures ∙ c.in_ok-judge_magic.was))
 
-pub returns-then-not-is_done-2 : goal.returns-then-not-is_done-2
-returns-then-not-is_done-2 c =
-    let refused = sym c.is_done-2.ensures ∙ c.if-not-is_done-2.true in
-    refused_shown _ _ refused c.shown-then-not-is_done-2.ensures c.read_fields-fields.ensures.answer
+pub field_at-requires : goal.field_at-requires
+field_at-requires c = here c.next.ensures.stands
 
-pub overflow_cast-header : goal.overflow_cast-header
-overflow_cast-header c =
-    let done = sym c.is_done-2.ensures ∙ c.if-not-is_done-2.false in
-    omega (arith, maximum_byte _ _ c.read_fields-fields.ensures done)
+pub returns-in_err-width : goal.returns-in_err-width
+returns-in_err-width c =
+    let magic = sym c.judge_magic.ensures ∙ c.in_ok-judge_magic.was in
+    let given = handed_on c.from_residual-in_err-width.ensures.1 in
+    width_refused _ _ c.next.ensures.stands.rest magic given c.in_err-width.ensures
 
-pub overflow_add-header : goal.overflow_add-header
-overflow_add-header c =
-    let done = sym c.is_done-2.ensures ∙ c.if-not-is_done-2.false in
-    omega (arith, end_within _ _ c.read_fields-fields.ensures done)
+pub field_at-requires-2 : goal.field_at-requires-2
+field_at-requires-2 c = here c.in_ok-width.ensures.1.end
+
+pub returns-in_err-height : goal.returns-in_err-height
+returns-in_err-height c =
+    let magic = sym c.judge_magic.ensures ∙ c.in_ok-judge_magic.was in
+    let given = handed_on c.from_residual-in_err-height.ensures.1 in
+    height_refused _ _ c.next.ensures.stands.rest magic c.in_ok-width.ensures given c.in_err-height.ensures
+
+pub maximum_at-requires : goal.maximum_at-requires
+maximum_at-requires c =
+    let magic = sym c.judge_magic.ensures ∙ c.in_ok-judge_magic.was in
+    maximum_stands _ _ c.next.ensures.stands.rest magic c.in_ok-width.ensures c.in_ok-height.ensures
+
+pub returns-in_err-maximum : goal.returns-in_err-maximum
+returns-in_err-maximum c =
+    let magic = sym c.judge_magic.ensures ∙ c.in_ok-judge_magic.was in
+    let given = handed_on c.from_residual-in_err-maximum.ensures.1 in
+    maximum_refused _ _ c.next.ensures.stands.rest magic c.in_ok-width.ensures c.in_ok-height.ensures given
+    c.in_err-maximum.ensures
+
+pub overflow_cast-result : goal.overflow_cast-result
+overflow_cast-result c =
+    let magic = sym c.judge_magic.ensures ∙ c.in_ok-judge_magic.was in
+    let byte =
+    maximum_byte _ _ c.next.ensures.stands.rest magic c.in_ok-width.ensures c.in_ok-height.ensures
+    c.in_ok-maximum.ensures in
+    omega arith
+
+pub overflow_add-result : goal.overflow_add-result
+overflow_add-result c =
+    let magic = sym c.judge_magic.ensures ∙ c.in_ok-judge_magic.was in
+    let within =
+    end_within _ _ c.next.ensures.stands.rest magic c.in_ok-width.ensures c.in_ok-height.ensures
+    c.in_ok-maximum.ensures in
+    omega arith
 
 pub returns : goal.returns
 returns c =
-    let done =
-    sym c.is_done-2.ensures ∙ c.if-not-is_done-2.false in
-    good_shown _ _ c.read_fields-fields.ensures done c.shown-2.ensures
+    let magic = sym c.judge_magic.ensures ∙ c.in_ok-judge_magic.was in
+    header_told _ _ c.next.ensures.stands.rest magic c.in_ok-width.ensures c.in_ok-height.ensures
+    c.in_ok-maximum.ensures

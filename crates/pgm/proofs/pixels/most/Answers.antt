@@ -4,14 +4,12 @@ use native.Mathlib.Omega.{arith}
 use Rattle.pgm.proofs.Images.{greatest_on, greatest_ended}
 use Rattle.pgm.proofs.pixels.most.Goals as goal
 
-pub loop-k-preserved : goal.loop-k-preserved
-loop-k-preserved c =
-    let l = c.loop-k in
-    let on =
-    greatest_on c.args.pixels.now l.k (omega arith) l.found in
-    (omega arith, rw c.greater-found.ensures (on ∙ l.invariant.1))
+pub loop-pixel-preserved : goal.loop-pixel-preserved
+loop-pixel-preserved c =
+    let l = c.loop-pixel in
+    rw c.max-found.ensures (greatest_on c.args.pixels.now l.pixel-index (omega arith) l.found ∙ l.invariant)
 
 pub returns : goal.returns
 returns c =
-    let l = c.loop-k in
-    greatest_ended c.args.pixels.now l.k (omega arith) l.found ∙ l.invariant.1
+    let l = c.loop-pixel in
+    greatest_ended c.args.pixels.now l.pixel-index (omega arith) l.found ∙ l.invariant

@@ -1,4 +1,4 @@
--- `pgm::scan::number_at` meets its contract: the digits left, behind the number so far, make the whole number.
+-- `pgm::scan::number_at` meets its contract: the number so far and the digits left make the whole number.
 -- Assumes nothing.
 use mathlib.Core.Path.{◌≡◌}
 use Prim.Native.Nat.{◌-◌, ◌≤◌}

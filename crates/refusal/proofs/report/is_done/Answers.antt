@@ -1,12 +1,7 @@
 -- `refusal::report::is_done` meets its contract. Assumes nothing.
-use borrow.Author.Rules.{rules}
-use Rattle.refusal.specs.Answer.{is_done}
+use mathlib.Core.Path.{◌∙◌}
+use Rattle.refusal.specs.Chain.{ok_is_done}
 use Rattle.refusal.proofs.report.is_done.Goals as goal
 
-pub returns-in-Done : goal.returns-in-Done
-unfolding is_done
-returns-in-Done c = search rules
-
-pub returns-in-Refused : goal.returns-in-Refused
-unfolding is_done
-returns-in-Refused c = search rules
+pub returns : goal.returns
+returns c = c.is_ok.ensures.value ∙ ok_is_done c.args.a

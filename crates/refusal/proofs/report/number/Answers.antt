@@ -3,10 +3,10 @@ use borrow.Author.Rules.{rules}
 use Rattle.refusal.specs.Answer.{number_of}
 use Rattle.refusal.proofs.report.number.Goals as goal
 
-pub returns-in-Done : goal.returns-in-Done
+pub returns-in-Ok : goal.returns-in-Ok
 unfolding number_of
-returns-in-Done c = search rules
+returns-in-Ok c = search rules
 
-pub returns-in-Refused : goal.returns-in-Refused
+pub returns-in-Err : goal.returns-in-Err
 unfolding number_of
-returns-in-Refused c = search rules
+returns-in-Err c = search rules

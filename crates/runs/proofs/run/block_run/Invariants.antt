@@ -1,14 +1,6 @@
--- `runs::run::block_run` meets its contract: the first k bytes are kept or chosen, and the comparisons counted.
--- Assumes nothing.
-use mathlib.Core.Path.{◌≡◌}
-use Prim.Native.Nat.{◌+◌, ◌-◌, ◌≤◌}
-use lib.ListN.{get_or}
-use Rattle.runs.specs.Scratch.{total}
-use Rattle.runs.specs.Runs.{ChosenUnless, compared_of, in_one_block}
+-- `runs::run::block_run` meets its contract: what is kept. Assumes nothing.
+use Rattle.runs.specs.Runs.{in_one_block}
 use Rattle.runs.proofs.run.block_run.Given as goal
 
-abbrev pub invariant-loop-k : goal.invariant-loop-k
-invariant-loop-k l = (l.k ≤ l.n) × ChosenUnless l.low (λ j. in_one_block l.last l.near l.far (get_or l.marks (l.at + j) 0)) l.to l.first l.second l.k l.initial.bytes l.bytes × (l.count ≡ total (compared_of (λ j. in_one_block l.last l.near l.far (get_or l.marks (l.at + j) 0))) 0 l.k)
-
-abbrev pub decreases-loop-k : goal.decreases-loop-k
-decreases-loop-k l = l.n - l.k
+abbrev pub ghost-marked_run : goal.ghost-marked_run
+ghost-marked_run a = in_one_block a.keeps.0 a.keeps.1 a.keeps.2

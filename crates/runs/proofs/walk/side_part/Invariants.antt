@@ -4,7 +4,7 @@ use Rattle.runs.specs.Runs.{Walked}
 use Rattle.runs.proofs.walk.side_part.Given as goal
 
 abbrev pub invariant-loop-x : goal.invariant-loop-x
-invariant-loop-x l = (l.p.lo ≤ l.x) × (l.x ≤ l.mid) × Walked l.g l.row l.p l.x l.initial.bytes l.bytes l.count
+invariant-loop-x l = (l.p.lo ≤ l.x) × (l.x ≤ l.mid) × Walked l.row.at.tables.grid l.row.at.row l.p l.x l.initial.bytes l.bytes l.count
 
 abbrev pub decreases-loop-x : goal.decreases-loop-x
 decreases-loop-x l = l.mid - l.x

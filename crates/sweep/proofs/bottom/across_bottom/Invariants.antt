@@ -5,7 +5,8 @@ use Rattle.sweep.specs.declared.Sweep.TheVariants.{Result}
 use Rattle.sweep.proofs.bottom.across_bottom.Given as goal
 
 abbrev pub invariant-loop-x : goal.invariant-loop-x
-invariant-loop-x l = (l.lo ≤ l.x) × (l.x ≤ l.hi) × PartDone Result l.g l.row l.lo l.x l.initial.bytes l.bytes l.count
+invariant-loop-x l =
+    (l.x ≤ l.hi) × PartDone Result l.row.at.tables.grid l.row.at.row l.lo l.x l.initial.bytes l.bytes l.count
 
 abbrev pub decreases-loop-x : goal.decreases-loop-x
 decreases-loop-x l = l.hi - l.x

@@ -16,6 +16,7 @@ nonzero_div-result c = some _ c.requires.0
 pub returns : goal.returns
 returns c =
     let g = c.args.g in
-    let whole = div-add-mod' (g.height - 1 - c.args.row) g.period in
-    let part = mod-lt (g.height - 1 - c.args.row) (some _ c.requires.0) in
-    (omega (arith, c.requires.1), omega (arith, c.requires.1, suc-mul ((g.height - 1 - c.args.row) / g.period) g.period))
+    let left = g.height - 1 - c.args.row in
+    let whole = div-add-mod' left g.period in
+    let part = mod-lt left (some _ c.requires.0) in
+    (omega (arith, c.requires.1), omega (arith, c.requires.1, suc-mul (left / g.period) g.period))

@@ -11,61 +11,66 @@ use Rattle.sweep.specs.Sweeps.{Ready}
 use Rattle.runs.proofs.Bounds.{row}
 use Rattle.sweep.proofs.Found.{found_below, found_off, found_on}
 use Rattle.sweep.proofs.Making.{small, numbered, made_cut, made_short}
-use Rattle.sweep.proofs.Reading.{read_B, inside_first, inside_below, rest_read}
+use Rattle.sweep.proofs.Reading.{read_B, inside_first, rest_read}
 use Rattle.sweep.proofs.pixel.across_at.Goals as goal
 
-pub overflow_sub-step : goal.overflow_sub-step
-overflow_sub-step c =
-    omega (arith, c.requires.across.reached, numbered _ _ _ _ _ _ c.requires.pixel.0)
+pub overflow_sub-p : goal.overflow_sub-p
+overflow_sub-p c =
+    omega (arith, c.requires.across.reached, numbered c.args.p.now.pixel)
 
-pub overflow_sub-g : goal.overflow_sub-g
-overflow_sub-g c =
-    omega (arith, inside_below _ _ _ _ _ _ c.requires.pixel.0 _ _ _ c.requires.across)
-
-pub overflow_add-step : goal.overflow_add-step
-overflow_add-step c =
-    let at = c.requires.pixel.0 in
+pub overflow_add-p : goal.overflow_add-p
+overflow_add-p c =
+    let at = c.args.p.now.pixel in
     record { fits = omega (arith, (row _ _ _ _ _ _ at).step_below, at.sized.height_most, at.sized.length_most) }
 
 pub spot_at-next-requires : goal.spot_at-next-requires
 spot_at-next-requires c =
-    let at = c.requires.pixel.0 in
-    (at, omega (arith, (row _ _ _ _ _ _ at).step_below, at.sized.height_most, at.sized.length_most))
+    let at = c.args.p.now.pixel in
+    (at.column, omega (arith, (row _ _ _ _ _ _ at).step_below, at.sized.height_most, at.sized.length_most))
 
 pub returns-then-is_off : goal.returns-then-is_off
 unfolding Ready
 returns-then-is_off c =
-    let at = c.requires.pixel.0 in
-    let g = c.args.g in
+    let p = c.args.p.now in
+    let at = p.pixel in
+    let row = p.at.now in
+    let g = row.tables.grid in
     let across = c.requires.across in
-    let found = c.spot_at-next.ensures ∙ ap (λ (q : ℕ). spot g (start_row g c.args.row) (line_name g c.args.row c.args.x) (c.args.step - g.back + (g.length - q))) across.inside_is in
-    let off = found_off _ _ _ _ _ _ at _ _ found _ c.is_off.ensures c.if-is_off.true in
-    let some = inside_first _ _ _ _ _ _ at _ _ _ across in (
-      λ f ready. c.as_is.ensures.0 ∙ rest_read _ _ _ _ _ _ at _ _ _ across f ready.2 ∙ (made_short _ _ _ _ _ _ at across.reached some f off).0,
-      c.as_is.ensures.1 ∙ (made_short _ _ _ _ _ _ at across.reached some (λ R x. 0) off).1,
+    let place = λ (q : ℕ). spot g (start_row g row.row) (line_name g row.row p.x) (row.step - g.back + (g.length - q)) in
+    let found = c.spot_at-next.ensures ∙ ap place across.inside_is in
+    let off = found_off at _ _ found _ c.is_off.ensures c.if-is_off.true in
+    let some = inside_first at _ _ _ across in (
+      λ f ready.
+          c.as_is.ensures.0
+          ∙ rest_read at _ _ _ across f ready.2
+          ∙ (made_short at across.reached some f off).0,
+      c.as_is.ensures.1 ∙ (made_short at across.reached some (λ R x. 0) off).1,
     )
 
 pub value_b-requires : goal.value_b-requires
 value_b-requires c =
-    let pre = c.requires.pixel in
-    let on = found_on _ _ _ _ _ _ pre.0 _ _ c.spot_at-next.ensures _ c.is_off.ensures c.if-is_off.false in
-    (pre.0.sized, found_below _ _ _ _ _ _ pre.0 _ _ c.spot_at-next.ensures on, pre.1)
+    let at = c.args.p.now.pixel in
+    let on = found_on at _ _ c.spot_at-next.ensures _ c.is_off.ensures c.if-is_off.false in
+    (at.sized, found_below at _ _ c.spot_at-next.ensures on, c.requires.room)
 
 pub returns : goal.returns
 unfolding Ready
 returns c =
-    let at = c.requires.pixel.0 in
-    let off = c.requires.pixel.2 in
-    let g = c.args.g in
+    let p = c.args.p.now in
+    let at = p.pixel in
+    let off = p.past in
+    let row = p.at.now in
+    let g = row.tables.grid in
     let across = c.requires.across in
-    let found = c.spot_at-next.ensures ∙ ap (λ (q : ℕ). spot g (start_row g c.args.row) (line_name g c.args.row c.args.x) (c.args.step - g.back + (g.length - q))) across.inside_is in
-    let on = found_on _ _ _ _ _ _ at _ _ found _ c.is_off.ensures c.if-is_off.false in
-    let some = inside_first _ _ _ _ _ _ at _ _ _ across in (
+    let place = λ (q : ℕ). spot g (start_row g row.row) (line_name g row.row p.x) (row.step - g.back + (g.length - q)) in
+    let found = c.spot_at-next.ensures ∙ ap place across.inside_is in
+    let on = found_on at _ _ found _ c.is_off.ensures c.if-is_off.false in
+    let some = inside_first at _ _ _ across in (
       λ f ready.
           c.compared.ensures.0
-          ∙ ap₂ (chosen g.low) (rest_read _ _ _ _ _ _ at _ _ _ across f ready.2)
+          ∙ ap₂ (chosen g.low) (rest_read at _ _ _ across f ready.2)
           (c.value_b.ensures ∙ ap (λ (i : ℕ). get_or c.args.bytes.now (size g + i) 0) found
-          ∙ read_B _ _ _ _ _ _ at _ _ _ _ _ on zero-le (row_fits g at.sized _ _ _ (small _ _ _ _ _ _ at) on) ready.2)
-          ∙ (made_cut _ _ _ _ _ _ at across.reached some off f on).0,
-      c.compared.ensures.1 ∙ (made_cut _ _ _ _ _ _ at across.reached some off (λ R x. 0) on).1,
+          ∙ read_B at _ _ _ _ _ on zero-le (row_fits g at.sized _ _ _ (small at) on) ready.2)
+          ∙ (made_cut at across.reached some off f on).0,
+      c.compared.ensures.1 ∙ (made_cut at across.reached some off (λ R x. 0) on).1,
     )

@@ -1,43 +1,36 @@
--- `sweep::rows::backward` meets its contract: the bands from left on are swept. Assumes nothing.
-use mathlib.Core.Path.{◌≡◌}
-use Prim.Native.Nat.{◌-◌}
+-- `sweep::rows::backward` meets its contract: the bands from band on are swept. Assumes nothing.
+use mathlib.Core.Path.{◌≡◌, refl}
+use Prim.Native.Nat.{◌-◌, ◌*◌, min}
 use native.Mathlib.Omega.{arith}
 use Rattle.sweep.specs.declared.Sweep.TheVariants.{Backward}
-use Rattle.sweep.proofs.Paging.{raised_none, raised_at, bands_join, total_small}
+use Rattle.sweep.proofs.Paging.{raised_none, raised_as, bands_join, total_small}
 use Rattle.sweep.proofs.rows.backward.Goals as goal
 
-pub loop-left-init : goal.loop-left-init
-loop-left-init c = (omega arith, raised_none _ _ _ _ _)
-
-pub overflow_sub-from : goal.overflow_sub-from
-overflow_sub-from c = omega (arith, c.nearer.ensures)
-
-pub backward_band-count-requires : goal.backward_band-count-requires
-backward_band-count-requires c =
-    let pre = c.requires in
-    let l = c.loop-left in record { sized = (pre.0, pre.1, omega (arith, pre.2, l.invariant.1.kept.same_length), pre.3); from_le_to = (omega arith, l.invariant.0) }
+pub loop-band-init : goal.loop-band-init
+loop-band-init c =
+    let height = c.args.page.now.tables.grid.height in
+    let all : min height (c.div_ceil-band.result * 32) ≡ height = omega (arith, c.div_ceil-band.ensures) in
+    raised_none all
 
 pub overflow_add-count : goal.overflow_add-count
 overflow_add-count c =
-    let g = c.args.g in
-    let sized = c.requires.0 in
-    let l = c.loop-left in
-    let band = c.backward_band-count.ensures in
-    record { fits = omega (arith, l.invariant.1.counted, band.counted, total_small Backward g l.left (g.height - l.left) sized.width_most (omega (arith, sized.height_most)), total_small Backward g (l.left - c.nearer.result) (l.left - (l.left - c.nearer.result)) sized.width_most (omega (arith, l.invariant.0, sized.height_most))) }
+    let tables = c.args.page.now.tables in
+    let g = tables.grid in
+    let sized = tables.sized in
+    let l = c.loop-band in
+    let mid = min g.height (l.band * 32) in
+    let from = (l.band - 1) * 32 in
+    let below = total_small Backward g mid (g.height - mid) sized.width_most (omega (arith, sized.height_most)) in
+    let own = total_small Backward g from (c.min-to.result - from) sized.width_most (omega (arith, c.min-to.ensures)) in
+    record { fits = omega (arith, l.invariant.counted, c.backward_band-count.ensures.counted, below, own) }
 
-pub loop-left-smaller : goal.loop-left-smaller
-loop-left-smaller c = omega (arith, c.nearer.ensures)
-
-pub loop-left-preserved : goal.loop-left-preserved
-loop-left-preserved c =
-    let l = c.loop-left in
-    (omega (arith, l.invariant.0), bands_join _ _ _ _ _ _ _ _ _ (omega arith) l.invariant.0 (omega arith) l.invariant.1 c.backward_band-count.ensures)
-
-pub shape_of-bytes : goal.shape_of-bytes
-shape_of-bytes c = c.loop-left.invariant.1.kept.same_length
-
-pub returns : goal.returns
-returns c =
-    let l = c.loop-left in
-    let e : l.left ≡ 0 = omega arith in
-    raised_at _ _ _ _ _ _ _ _ _ e l.invariant.1
+pub loop-band-preserved : goal.loop-band-preserved
+loop-band-preserved c =
+    let g = c.args.page.now.tables.grid in
+    let l = c.loop-band in
+    let from = (l.band - 1) * 32 in
+    let mid = min g.height (l.band * 32) in
+    let to : c.min-to.result ≡ mid = omega (arith, c.min-to.ensures) in
+    let own : from ≡ min g.height from = omega (arith, c.div_ceil-band.ensures) in
+    let band = raised_as refl to c.backward_band-count.ensures in
+    raised_as own refl (bands_join g from mid g.height _ _ _ _ _ (omega arith) (omega arith) refl l.invariant band)

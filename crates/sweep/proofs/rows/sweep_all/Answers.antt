@@ -8,17 +8,21 @@ use Rattle.sweep.proofs.rows.sweep_all.Goals as goal
 
 pub overflow_add-result : goal.overflow_add-result
 overflow_add-result c =
-    let sized = c.requires.0 in
-    let first = c.backward-first.ensures in
-    record { fits = omega (arith, first.counted, total_small Backward c.args.g 0 (c.args.g.height - 0) sized.width_most (omega (arith, sized.height_most)), lowered_small _ _ _ _ _ _ c.forward-second.ensures sized.width_most sized.height_most sized.height_most) }
+    let g = c.args.page.now.tables.grid in
+    let sized = c.args.page.now.tables.sized in
+    let wide = sized.width_most in
+    let high = sized.height_most in
+    let first = total_small Backward g 0 (g.height - 0) wide (omega (arith, high)) in
+    let second = lowered_small c.forward-second.ensures wide high high in
+    record { fits = omega (arith, c.backward-first.ensures.counted, first, second) }
 
 pub returns : goal.returns
 returns c =
     let first = c.backward-first.ensures in
     let second = c.forward-second.ensures in
     record {
-      kept = pass_kept _ _ _ _ _ _ first second;
-      made = pass_made _ _ _ _ _ _ first second;
-      counted = pass_counted _ _ _ _ _ _ first second;
-      most = pass_most _ _ (pass_counted _ _ _ _ _ _ first second);
+      kept = pass_kept first second;
+      made = pass_made first second;
+      counted = pass_counted first second;
+      most = pass_most _ (pass_counted first second);
     }

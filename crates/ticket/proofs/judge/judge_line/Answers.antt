@@ -1,14 +1,16 @@
 -- `ticket::judge::judge_line` meets its contract. Assumes nothing.
-use mathlib.Core.Path.{ap, ◌∙◌}
-use Rattle.ticket.specs.Judging.{judge_line, line_known}
-use Rattle.fields.specs.Fields.{line_head}
-use Rattle.refusal.specs.declared.Refusal.TheVariants.{Unknown}
-use Rattle.ticket.proofs.Chains.{field_judged}
+use mathlib.Core.Path.{refl}
+use Rattle.refusal.specs.Chain.{then_passed, then_ended}
+use Rattle.ticket.specs.Judging.{judge_line}
 use Rattle.ticket.proofs.judge.judge_line.Goals as goal
 
 pub returns : goal.returns
 unfolding judge_line
 returns c =
-    let field = c.judge_field.ensures in
-    field_judged Unknown line_head c.first_refusal.ensures field c.refuse_unless.ensures
-    (c.line_known-known.ensures ∙ ap line_known c.line_in.ensures)
+    then_passed c.in_ok-judge_field.was c.judge_field.ensures
+    (rw (c.refuse_unless.ensures, c.line_known-known.ensures, c.line_in.ensures) refl)
+
+pub returns-in_err-judge_field : goal.returns-in_err-judge_field
+unfolding judge_line
+returns-in_err-judge_field c =
+    then_ended _ c.in_err-judge_field.was c.judge_field.ensures c.from_residual.ensures.1

@@ -1,14 +1,16 @@
 -- `ticket::judge::judge_operation` meets its contract. Assumes nothing.
-use mathlib.Core.Path.{ap, ◌∙◌}
-use Rattle.ticket.specs.Judging.{judge_operation, operation_known}
-use Rattle.fields.specs.Fields.{operation_head}
-use Rattle.refusal.specs.declared.Refusal.TheVariants.{Unknown}
-use Rattle.ticket.proofs.Chains.{field_judged}
+use mathlib.Core.Path.{refl}
+use Rattle.refusal.specs.Chain.{then_passed, then_ended}
+use Rattle.ticket.specs.Judging.{judge_operation}
 use Rattle.ticket.proofs.judge.judge_operation.Goals as goal
 
 pub returns : goal.returns
 unfolding judge_operation
 returns c =
-    let field = c.judge_field.ensures in
-    field_judged Unknown operation_head c.first_refusal.ensures field c.refuse_unless.ensures
-    (c.operation_known-known.ensures ∙ ap operation_known c.operation_in.ensures)
+    then_passed c.in_ok-judge_field.was c.judge_field.ensures
+    (rw (c.refuse_unless.ensures, c.operation_known-known.ensures, c.operation_in.ensures) refl)
+
+pub returns-in_err-judge_field : goal.returns-in_err-judge_field
+unfolding judge_operation
+returns-in_err-judge_field c =
+    then_ended _ c.in_err-judge_field.was c.judge_field.ensures c.from_residual.ensures.1

@@ -1,8 +1,25 @@
 -- `ticket::judge::judge_phase` meets its contract. Assumes nothing.
+use mathlib.Core.Path.{refl}
+use Rattle.refusal.specs.Chain.{then_passed, then_ended}
 use Rattle.fields.specs.Fields.{dx_in, dy_in, signed_at}
 use Rattle.ticket.specs.Judging.{judge_phase}
 use Rattle.ticket.proofs.judge.judge_phase.Goals as goal
 
 pub returns : goal.returns
 unfolding judge_phase dx_in dy_in signed_at
-returns c = cc
+returns c =
+    then_passed c.in_ok-judge_field.was c.judge_field.ensures
+    (rw (
+      c.refuse_unless.ensures,
+      c.phase_allowed-allowed.ensures,
+      c.is_periodic-periodic.ensures,
+      c.line_in.ensures,
+      c.dx_bits.ensures,
+      c.dy_bits.ensures,
+      c.phase_in.ensures,
+    ) refl)
+
+pub returns-in_err-judge_field : goal.returns-in_err-judge_field
+unfolding judge_phase
+returns-in_err-judge_field c =
+    then_ended _ c.in_err-judge_field.was c.judge_field.ensures c.from_residual.ensures.1

@@ -6,7 +6,8 @@ pub paint-requires : goal.paint-requires
 paint-requires c =
     let a = c.args in
     let turned = c.turned_box-y.ensures in
-    box_in_rows_as a.lay a.x c.requires.rectangle_fits _ _ turned c.compact_width-w.ensures _ c.requires.height_in_bounds
+    box_in_rows_as a.lay a.x c.requires.rectangle_fits _ _ turned c.compact_width-w.ensures _
+    c.requires.height_in_bounds
 
 pub returns : goal.returns
 returns c =

@@ -4,8 +4,12 @@ use Rattle.tray.proofs.boxes.turned_box.Goals as goal
 
 pub returns-then-lay : goal.returns-then-lay
 unfolding turned_box down_of across_of
-returns-then-lay c = rw (c.if-lay.true, c.mirrored_from-left.ensures, c.mirrored_to-right.ensures)
+returns-then-lay c =
+    let sides = c.mirrored_sides-left in
+    rw (c.if-lay.true, sides.ensures.0, sides.ensures.1)
 
-pub returns : goal.returns
+pub returns-else-lay : goal.returns-else-lay
 unfolding turned_box down_of across_of
-returns c = rw (c.if-lay.false, c.mirrored_from-left-2.ensures, c.mirrored_to-right-2.ensures)
+returns-else-lay c =
+    let sides = c.mirrored_sides-left-else-lay in
+    rw (c.if-lay.false, sides.ensures.0, sides.ensures.1)

@@ -1,18 +1,11 @@
 -- `tray::row::fill_mirrored` meets its contract. The invariant: the last k bytes are filled. Assumes nothing.
 use borrow.Author.Rules.{rules}
 use Prim.Native.Nat.{ℕ, ◌-◌}
-use mathlib.Core.Path.{◌≡◌, refl, sym, ◌∙◌, ap}
+use mathlib.Core.Path.{◌≡◌, sym, ◌∙◌, ap}
 use native.Mathlib.Omega.{arith}
 use lib.ListN.{length, get_or}
 use Rattle.geometry.proofs.Laws.{mirrored_falling}
-use Rattle.tray.proofs.Stores.{store_back}
 use Rattle.tray.proofs.row.fill_mirrored.Goals as goal
-
-pub loop-k-preserved : goal.loop-k-preserved
-loop-k-preserved c =
-    let a = c.args in
-    let l = c.loop-k in
-    (search rules, search rules, store_back (λ (j : ℕ). get_or a.from.now j 0) l.to (length a.to.now) l.k _ l.invariant.1 (omega arith) refl l.invariant.2)
 
 pub returns : goal.returns
 returns c =
@@ -24,6 +17,6 @@ returns c =
           let other = length a.from.now - 1 - k in
           let place : k ≡ length a.to.now - 1 - (length a.from.now - 1 - k) = omega arith in
           ap (λ (m : ℕ). get_or l.to m 0) place
-          ∙ l.invariant.2 other (omega arith)
+          ∙ l.invariant other (omega arith)
           ∙ ap (λ (m : ℕ). get_or a.from.now m 0) (sym (mirrored_falling (length a.from.now) k));
     }

@@ -1,6 +1,5 @@
 -- `tray::row::fill_row` meets its contract: each way fills as it is asked. Assumes nothing.
-use mathlib.Core.Path.{sym, subst}
-use mathlib.Core.Bool.{Bool}
+use Rattle.std.proofs.Common.{Bool, sym, subst}
 use Rattle.tray.specs.Promises.{RowFilled}
 use Rattle.tray.proofs.row.fill_row.Goals as goal
 

@@ -7,6 +7,6 @@ pub returns-then-lay : goal.returns-then-lay
 unfolding across_of
 returns-then-lay c = rw c.if-lay.true refl
 
-pub returns : goal.returns
+pub returns-else-lay : goal.returns-else-lay
 unfolding across_of
-returns c = rw c.if-lay.false refl
+returns-else-lay c = rw c.if-lay.false refl

@@ -1,11 +1,7 @@
 -- `turning::turn::gather` meets its contract. The invariant: the columns from b to just before k are gathered. Assumes
 -- nothing.
-use Rattle.std.proofs.Common.{◌-◌, ◌≤◌}
 use Rattle.turning.specs.Pieces.{Stored, source_pixel}
 use Rattle.turning.proofs.turn.gather.Given as goal
 
 abbrev pub invariant-loop-k : goal.invariant-loop-k
-invariant-loop-k l = (l.b ≤ l.k) × (l.k ≤ l.e) × Stored (source_pixel l.from l.t l.a) l.b l.k l.initial.part l.part
-
-abbrev pub decreases-loop-k : goal.decreases-loop-k
-decreases-loop-k l = l.e - l.k
+invariant-loop-k l = Stored (source_pixel l.from l.t l.a) l.b l.k l.initial.part l.part

@@ -5,7 +5,12 @@ use Rattle.turning.proofs.turn.page_out.Goals as goal
 pub copy_rows-requires : goal.copy_rows-requires
 copy_rows-requires c =
     let is = c.compact-q.ensures in
-    let same = c.requires.same_sides in record { placed = placed_compact _ _ _ same is _ _ c.requires.placed c.requires.height_in_bounds; placed_2 = c.requires.placed; alike = alike_out _ _ _ same is c.if-lay.true }
+    let same = c.requires.same_sides in
+    record {
+      placed = placed_compact _ _ _ same is _ _ c.requires.placed c.requires.height_in_bounds;
+      placed_2 = c.requires.placed;
+      alike = alike_out _ _ _ same is c.if-lay.true;
+    }
 
 pub turn_page-requires : goal.turn_page-requires
 turn_page-requires c =

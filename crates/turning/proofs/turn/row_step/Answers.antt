@@ -7,6 +7,6 @@ pub returns-then-up : goal.returns-then-up
 unfolding row_step_of
 returns-then-up c = rw c.if-up.true (omega arith)
 
-pub returns : goal.returns
+pub returns-else-up : goal.returns-else-up
 unfolding row_step_of
-returns c = rw c.if-up.false
+returns-else-up c = rw c.if-up.false

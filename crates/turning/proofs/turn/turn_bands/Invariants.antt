@@ -4,7 +4,11 @@ use Rattle.turning.specs.Pieces.{Part, turned_pixel}
 use Rattle.turning.proofs.turn.turn_bands.Given as goal
 
 abbrev pub invariant-loop-a : goal.invariant-loop-a
-invariant-loop-a l = (l.a ≤ l.t.target.height) × Part (turned_pixel l.from l.t) l.t 0 l.a 0 l.t.target.width l.initial.to l.to
+invariant-loop-a l =
+    record {
+      most : l.a ≤ l.t.target.height;
+      filled : Part (turned_pixel l.from l.t) l.t 0 l.a 0 l.t.target.width l.initial.to l.to;
+    }
 
 abbrev pub decreases-loop-a : goal.decreases-loop-a
 decreases-loop-a l = l.t.target.height - l.a

@@ -9,6 +9,8 @@ use Rattle.job.specs.Order.{segment_of}
 use Rattle.finding.specs.declared.Search.{Search}
 use Rattle.why.specs.Reason.{starts_low, passes_twice}
 use Rattle.why.specs.Promises.{search_of}
+use Rattle.why.proofs.Ordered.{then_is, else_is}
+use Rattle.why.proofs.order.search_of.Goals.{then-low, else-low}
 use Rattle.why.proofs.order.search_of.Goals as goal
 
 -- the back of a segment, as the code chooses it
@@ -32,8 +34,24 @@ search_as t low twice back from steps low-is twice_is back_is from_is steps-is =
     steps-is ∙ ap (λ (w : Bool). cond w t.length 1) twice_is in
     cc
 
-pub returns : goal.returns
-returns c =
-    search_as c.args.t _ _ _ _ _ c.starts_low-low.ensures
-    c.passes_twice-twice.ensures c.either-back.ensures
-    c.either.ensures c.either-2.ensures
+pub returns-then-twice : goal.returns-then-twice
+returns-then-twice c =
+    let back_is : c.if-low.back ≡ cond c.starts_low-low.result c.args.t.origin (c.args.t.length - 1 - c.args.t.origin) =
+    elim c.if-low.branch [
+      | then-low w ↦ w.back-is ∙ then_is _ _ _ w.if-low.true
+      | else-low w ↦ w.back-is ∙ else_is _ _ _ w.if-low.false
+    ]
+    in
+    search_as c.args.t _ _ _ _ _ c.starts_low-low.ensures c.passes_twice-twice.ensures back_is
+    (then_is _ _ _ c.if-twice.true) (then_is _ _ _ c.if-twice.true)
+
+pub returns-else-twice : goal.returns-else-twice
+returns-else-twice c =
+    let back_is : c.if-low.back ≡ cond c.starts_low-low.result c.args.t.origin (c.args.t.length - 1 - c.args.t.origin) =
+    elim c.if-low.branch [
+      | then-low w ↦ w.back-is ∙ then_is _ _ _ w.if-low.true
+      | else-low w ↦ w.back-is ∙ else_is _ _ _ w.if-low.false
+    ]
+    in
+    search_as c.args.t _ _ _ _ _ c.starts_low-low.ensures c.passes_twice-twice.ensures back_is
+    (else_is _ _ _ c.if-twice.false) (else_is _ _ _ c.if-twice.false)

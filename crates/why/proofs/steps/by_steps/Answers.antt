@@ -11,7 +11,10 @@ standing_of-s-requires c =
 
 pub fill_profile-requires : goal.fill_profile-requires
 fill_profile-requires c =
-    let line-is = c.line_of-line.ensures in record { allowed = gathering.line_near _ _ c.args.source.now _ c.requires.asked _ line-is; table_len_bound = omega (arith, c.requires.profile_len.0) }
+    record {
+      allowed = gathering.line_near _ _ c.args.source.now _ c.requires.asked _ c.line_of-line.ensures;
+      table_len_bound = omega (arith, c.requires.profile_len.0);
+    }
 
 pub fill_row-requires : goal.fill_row-requires
 fill_row-requires c =
@@ -19,30 +22,24 @@ fill_row-requires c =
     let tray = c.args.source.now in
     let row = c.args.row.now in
     let line-is = c.line_of-line.ensures in
-    let s-is = c.standing_of-s.ensures in record { stands = gathering.stands _ _ tray _ asked _ line-is _ s-is; tabled = gathering.tabled _ _ tray _ asked _ line-is _ s-is _ (c.fill_profile.ensures.same_length ∙ c.requires.profile_len.0) c.fill_profile.ensures.tabled; of_page = gathering.of_page _ _ tray _ asked _ line-is _ s-is; row_len_bound = gathering.short _ _ tray _ asked _ line-is _ s-is row c.requires.profile_len.1 }
+    let s-is = c.standing_of-s.ensures in
+    let long = c.fill_profile.ensures.same_length ∙ c.requires.profile_len.0 in
+    record {
+      stands = gathering.stands _ _ tray _ asked _ line-is _ s-is;
+      tabled = gathering.tabled _ _ tray _ asked _ line-is _ s-is _ long c.fill_profile.ensures.tabled;
+      of_page = gathering.of_page _ _ tray _ asked _ line-is _ s-is;
+      row_len_bound = gathering.short _ _ tray _ asked _ line-is _ s-is row c.requires.profile_len.1;
+    }
 
 pub named_in-requires : goal.named_in-requires
 named_in-requires c =
     gathering.searched _ _ c.args.source.now _ c.requires.asked _ c.line_of-line.ensures _
     c.standing_of-s.ensures _ (ap suc c.fill_row.ensures.same_length ∙ c.requires.profile_len.1)
-    (λ k. omega (arith, c.type_inv.source k)) c.requires.row_value c.fill_row.ensures.filled _
+    c.requires.row_value c.fill_row.ensures.filled _
     (c.fill_profile.ensures.same_length ∙ c.requires.profile_len.0) c.fill_profile.ensures.tabled
-
-pub shape_of-profile : goal.shape_of-profile
-shape_of-profile c =
-    c.fill_profile.ensures.same_length
-
-pub shape_of-row : goal.shape_of-row
-shape_of-row c = c.fill_row.ensures.same_length
 
 pub returns : goal.returns
 returns c =
     gathering.tells _ _ c.args.source.now _ c.requires.asked _ c.line_of-line.ensures _
     c.standing_of-s.ensures _ (ap suc c.fill_row.ensures.same_length ∙ c.requires.profile_len.1)
-    (λ k. omega (arith, c.type_inv.source k)) c.requires.row_value c.fill_row.ensures.filled _ c.named_in.ensures
-
-pub line_of-line-requires : goal.line_of-line-requires
-line_of-line-requires c = c.requires.asked.ticket
-
-pub overflow_sub-t : goal.overflow_sub-t
-overflow_sub-t c = omega (arith, c.requires.asked.ticket.length_from)
+    c.requires.row_value c.fill_row.ensures.filled _ c.named_in.ensures

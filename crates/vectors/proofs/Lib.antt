@@ -1,3 +1,0 @@
--- What the proofs of several functions use, here and in `geometry`.
-pub mod Bits
-pub mod Vectors
