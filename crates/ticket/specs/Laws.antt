@@ -16,8 +16,8 @@ use Rattle.refusal.specs.Chain.{unless, ◌then◌, then_on, then_done, unless_d
 use Rattle.refusal.specs.Chain.{not_given}
 use Rattle.refusal.specs.declared.Refusal.{Refusal}
 use Rattle.refusal.specs.declared.Refused.{Refused}
-use Rattle.refusal.specs.declared.Refusal.TheVariants.{BadVector, BadLength, BadOrigin, BadPhase}
-use Rattle.fields.specs.Fields.{byte_at, number_at, first_box, field_end, line_in, dx_in, dy_in}
+use Rattle.refusal.specs.declared.Refusal.TheVariants.{Unknown, BadVector, BadLength, BadOrigin, BadPhase}
+use Rattle.fields.specs.Fields.{byte_at, number_at, first_box, field_end, operation_in, line_in, dx_in, dy_in}
 use Rattle.fields.specs.Fields.{length_in, origin_in, phase_in}
 use Rattle.ticket.specs.Boxes.{box_at, boxes_from, boxes_in}
 use Rattle.fields.specs.Vectors.{divided, coprime, vector_allowed, phase_allowed}
@@ -236,7 +236,7 @@ periodic_zero p dx dy i h e = eqb-true i 0 (rw e at h)
 
 -- THE LAW: a ticket of bytes that is good shows allowed fields
 pub good_allowed : (s : List ℕ) → Bytes s → is_done (judged s) ≡ true → Allowed (shown s)
-unfolding judge_operation judge_line judge_vector judge_length judge_origin judge_phase operation_known line_known vector_allowed length_allowed origin_allowed shown
+unfolding judge_vector judge_length judge_origin judge_phase vector_allowed length_allowed origin_allowed shown
 good_allowed s bytes good =
     let g = all_good s good in
     let p = is_periodic (line_in s) in
@@ -262,6 +262,16 @@ good_allowed s bytes good =
       places = places_length (boxes_in s) (boxes_few s);
       box_numbers_lem = λ k. places_small s k bytes;
     }
+
+-- the numbers of a good ticket's operation and kind of line are those that stand in it
+pub shown_numbers : (s : List ℕ) → is_done (judged s) ≡ true
+    → (operation_number (shown s).operation ≡ operation_in s) × (line_number (shown s).line ≡ line_in s)
+unfolding judge_operation judge_line shown
+shown_numbers s good =
+    let g = all_good s good in (
+      operation_back (operation_in s) (value (judge_field s 0 1 1) _ Unknown 0 g.operation),
+      line_back (line_in s) (value (judge_field s 4 2 1) _ Unknown 4 g.line),
+    )
 
 -- what a caller knows who has called the reader: of a ticket that was read, and of a refusal
 pub read_good : (s : List ℕ) (t : Ticket) → reading s ≡ Ok t → (is_done (judged s) ≡ true) × (shown s ≡ t)
