@@ -15,8 +15,8 @@ const MOST_INPUT: u64 = 12;
 fn main(rt: HostRuntime) -> io::Result<()> {
     let mut input = Vec::new(rt.alloc());
     rt.stdin().take(MOST_INPUT).read_to_end(&mut input)?;
-    let Some(asked) = order::read(&input) else {
+    let Some(order) = order::read(&input).and_then(order::listed) else {
         return println!(rt; "bad input");
     };
-    listing::list(&rt, asked.line, asked.w, asked.h)
+    listing::list(&rt, order.line, order.w, order.h)
 }

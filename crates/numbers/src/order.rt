@@ -1,5 +1,5 @@
 // The order: a line and the sides of a page.
-ghost use Rattle.std.specs.Prelude.{◌≡◌, true, ◌||◌, ◌<◌, IfSome, length};
+ghost use Rattle.std.specs.Prelude.{◌≡◌, true, ◌||◌, ◌<◌, ◌↔◌, IfSome, IsSome, length};
 ghost use Rattle.vectors.specs.Vector.{major_of, shallow, steep};
 ghost use Rattle.geometry.specs.Drift.{Allowed};
 ghost use Rattle.numbers.specs.Page.{Good, Sides};
@@ -11,6 +11,17 @@ use vectors::{component_size, is_shallow, is_steep, major_of};
 const MOST_COMPONENT: usize = 255;
 
 const MOST_PIXELS: usize = 4096;
+
+// What 11 bytes ask for, be it an order or not: the kind is a byte still.
+#[derive(Clone, Copy)]
+pub struct Asked {
+    pub kind: u8,
+    pub dx: i32,
+    pub dy: i32,
+    pub phase: usize,
+    pub w: usize,
+    pub h: usize,
+}
 
 #[derive(Clone, Copy)]
 pub struct Order {
@@ -56,9 +67,9 @@ fn is_page(w: usize, h: usize) -> bool
     1 <= w && w <= MOST_PIXELS && 1 <= h && h <= MOST_PIXELS && w * h <= MOST_PIXELS
 }
 
-// The order that 11 bytes hold, if it can be listed. Fewer bytes or more hold none.
-pub fn read(bytes: &[u8]) -> Option<Order>
-    ensures { IfSome result (λ order. Good order × (length bytes.now ≡ 11)) }
+// What 11 bytes ask for. Fewer or more ask for nothing.
+pub fn read(bytes: &[u8]) -> Option<Asked>
+    ensures { IsSome result ↔ (length bytes.now ≡ 11) }
 {
     let &[
         kind,
@@ -76,6 +87,28 @@ pub fn read(bytes: &[u8]) -> Option<Order>
     else {
         return None;
     };
+    Some(Asked {
+        kind,
+        dx: i32::from(i16::from_be_bytes([dx_high, dx_low])),
+        dy: i32::from(i16::from_be_bytes([dy_high, dy_low])),
+        phase: usize::from(u16::from_be_bytes([phase_high, phase_low])),
+        w: usize::from(u16::from_be_bytes([w_high, w_low])),
+        h: usize::from(u16::from_be_bytes([h_high, h_low])),
+    })
+}
+
+// The order that is asked for, if it can be listed.
+pub fn listed(asked: Asked) -> Option<Order>
+    ensures { IfSome result Good }
+{
+    let Asked {
+        kind,
+        dx,
+        dy,
+        phase,
+        w,
+        h,
+    } = asked;
     let periodic = match kind {
         1 => false,
         2 => true,
@@ -83,12 +116,10 @@ pub fn read(bytes: &[u8]) -> Option<Order>
     };
     let line = Line {
         periodic,
-        dx: i32::from(i16::from_be_bytes([dx_high, dx_low])),
-        dy: i32::from(i16::from_be_bytes([dy_high, dy_low])),
-        phase: usize::from(u16::from_be_bytes([phase_high, phase_low])),
+        dx,
+        dy,
+        phase,
     };
-    let w = usize::from(u16::from_be_bytes([w_high, w_low]));
-    let h = usize::from(u16::from_be_bytes([h_high, h_low]));
     if is_allowed(line) && is_page(w, h) {
         Some(Order { line, w, h })
     } else {
