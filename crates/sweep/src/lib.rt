@@ -33,6 +33,7 @@ pub struct Within {
 }
 
 // The three sweeps of a pass, as the contracts name them: each is a function of `row`.
+#[derive(Clone, Copy)]
 pub enum Sweep {
     Backward,
     Forward,
