@@ -13,12 +13,16 @@ pub fn chosen_of(low: bool, a: u8, b: u8) -> u8
 }
 
 // A run that stands where it is to be needs no copy.
+// No `copy_within`: it goes from the last byte down where a run is copied to a higher place, as the backward sweep's
+// bands are, and memory is read faster from the first byte on.
 pub fn copy_run(bytes: &mut [u8], to: usize, from: usize, n: usize)
     requires { (to + n ≤ length bytes.old) × (from + n ≤ length bytes.old) × Apart to from n }
     ensures { Copied to from n bytes.old bytes.new }
 {
     if to != from {
-        bytes.copy_within(from..from + n, to);
+        for k in 0..n {
+            bytes[to + k] = bytes[from + k];
+        }
     }
 }
 
