@@ -98,18 +98,18 @@ fn rest_top(at: &RowAt, bytes: &mut [u8], mid: usize) -> usize
     across_top(at, bytes, mid, inside)
 }
 
-// The columns from lo up to hi, one by one.
+// The columns from lo up to hi, one by one. The row is copied: what is lent is read anew after each byte written.
 fn each_part(at: &RowAt, bytes: &mut [u8], far: usize, lo: usize, hi: usize) -> usize
     requires room { let g = at.now.tables.grid in size g + size g ≤ length bytes.old }
     requires far_edge { let g = at.now.tables.grid in FarEdge g at.now.row at.now.step g.on far × (far ≤ lo) ×
         (lo ≤ hi) × (hi ≤ g.width) }
     ensures { PartDone Sweep.Result at.now.tables.grid at.now.row lo hi bytes.old bytes.new result }
 {
-    let g = at.tables.grid;
-    let base = at.row * g.width;
+    let own = *at;
+    let base = own.row * own.tables.grid.width;
     let mut count: usize = 0;
     for x in lo..hi {
-        let made = pixel::rest_at(&EdgePixel { at, x }, bytes);
+        let made = pixel::rest_at(&EdgePixel { at: &own, x }, bytes);
         bytes[base + x] = made.value;
         count += made.count;
     }
