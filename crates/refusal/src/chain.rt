@@ -2,7 +2,7 @@
 ghost use Rattle.std.specs.Prelude.{◌≡◌};
 ghost use Rattle.refusal.specs.Chain.{unless, ◌then◌};
 
-use super::{Refusal, Refused};
+use super::{Refusal, Refused, report};
 
 // Done, without any work, or the refusal at its place.
 pub fn refuse_unless(test: bool, refusal: Refusal, at: usize) -> Result<u64, Refused>
@@ -16,9 +16,8 @@ pub fn refuse_unless(test: bool, refusal: Refusal, at: usize) -> Result<u64, Ref
 }
 
 // The first judgement if it is a refusal, else the second.
-// Stays: `?` does it in these crates; this is a promise of the crate's own (docs/PROMISES.md), with wrong programs.
 pub fn first_refusal(a: Result<u64, Refused>, b: Result<u64, Refused>) -> Result<u64, Refused>
     ensures { result ≡ (a then b) }
 {
-    a.and(b)
+    if report::is_done(a) { b } else { a }
 }

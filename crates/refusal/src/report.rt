@@ -60,6 +60,7 @@ pub fn place(a: Result<u64, Refused>) -> usize
     }
 }
 
+#[tactic(auto, unfolding(crate::specs::Answer::work_in))]
 pub fn work(a: Result<u64, Refused>) -> u64
     ensures { result ≡ work_in a }
 {
@@ -67,7 +68,7 @@ pub fn work(a: Result<u64, Refused>) -> u64
 }
 
 // Whether nothing is refused.
-// Stays: `?` and `match` do it in these crates; this is a promise of the crate's own (docs/PROMISES.md).
+#[tactic(auto, unfolding(crate::specs::Answer::is_done))]
 pub fn is_done(a: Result<u64, Refused>) -> bool
     ensures { result ≡ is_done a }
 {

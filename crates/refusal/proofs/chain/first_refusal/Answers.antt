@@ -1,7 +1,14 @@
 -- `refusal::chain::first_refusal` meets its contract. Assumes nothing.
-use mathlib.Core.Path.{◌∙◌}
-use Rattle.refusal.specs.Chain.{and_is_then}
+use mathlib.Core.Path.{sym, ◌∙◌}
+use Rattle.refusal.specs.Chain.{then_on, then_stop}
 use Rattle.refusal.proofs.chain.first_refusal.Goals as goal
 
-pub returns : goal.returns
-returns c = c.and.ensures ∙ and_is_then c.args.a c.args.b
+pub returns-then-is_done : goal.returns-then-is_done
+returns-then-is_done c =
+    let a = c.args in
+    sym (then_on a.a a.b (sym c.is_done.ensures ∙ c.if-is_done.true))
+
+pub returns-else-is_done : goal.returns-else-is_done
+returns-else-is_done c =
+    let a = c.args in
+    sym (then_stop a.a a.b (sym c.is_done.ensures ∙ c.if-is_done.false))
