@@ -11,7 +11,7 @@ use fields::value::{
     PHASE_HEAD, VECTOR_HEAD,
 };
 use fields::vector;
-use refusal::chain::refuse_unless;
+use refusal::chain::{first_refusal, refuse_unless};
 use refusal::{Refusal, Refused};
 
 // The limits of document 01: the operations 1 erode to 4 close, the lines 1 connected and 2 periodic, L to 8192.
@@ -152,8 +152,9 @@ fn judge_box(s: &[u8], head: usize, k: usize) -> Result<u64, Refused>
     ensures { result ≡ judge_box s.now head k }
 {
     judge_head(s, head, 7)?;
-    refuse_unless(k < MOST_BOXES, Refusal::TooManyBoxes, head)?;
-    judge_size(s, head, 8)
+    let many = refuse_unless(k < MOST_BOXES, Refusal::TooManyBoxes, head);
+    let size = judge_size(s, head, 8);
+    first_refusal(many, size)
 }
 
 // The boxes until the ticket ends before a head. The 65th is refused, so none behind it is asked for.
