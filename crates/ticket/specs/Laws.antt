@@ -11,9 +11,9 @@ use Rattle.std.proofs.lemmas.List.{length-replicate}
 use Rattle.std.proofs.Math.Seq.{take-append_seam}
 use Rattle.std.proofs.Math.Dec.{leb}
 use Rattle.vectors.specs.Vector.{shallow, steep}
-use Rattle.refusal.specs.Answer.{is_done, Answer, done_with}
+use Rattle.refusal.specs.Answer.{is_done, Answer, done_with, giving}
 use Rattle.refusal.specs.Chain.{unless, ◌then◌, then_on, then_done, unless_done, given}
-use Rattle.refusal.specs.Chain.{not_given}
+use Rattle.refusal.specs.Chain.{not_given, giving_on, giving_err}
 use Rattle.refusal.specs.declared.Refusal.{Refusal}
 use Rattle.refusal.specs.declared.Refused.{Refused}
 use Rattle.refusal.specs.declared.Refusal.TheVariants.{Unknown, BadVector, BadLength, BadOrigin, BadPhase}
@@ -273,7 +273,16 @@ shown_numbers s good =
       line_back (line_in s) (value (judge_field s 4 2 1) _ Unknown 4 g.line),
     )
 
--- what a caller knows who has called the reader: of a ticket that was read, and of a refusal
+-- what the reader answers: the ticket as shown where it is good, else the refusal
+pub reading_good : (s : List ℕ) → is_done (judged s) ≡ true → reading s ≡ Ok (shown s)
+unfolding reading
+reading_good s h = giving_on (judged s) (shown s) h
+
+pub reading_refused : (s : List ℕ) (refused : Refused) → judged s ≡ Err refused → reading s ≡ Err refused
+unfolding reading
+reading_refused s refused e = ap (λ (a : Answer). giving a (shown s)) e ∙ giving_err refused (shown s)
+
+-- and back, what a caller knows who has called it: of a ticket that was read, and of a refusal
 pub read_good : (s : List ℕ) (t : Ticket) → reading s ≡ Ok t → (is_done (judged s) ≡ true) × (shown s ≡ t)
 unfolding reading
 read_good s t e = given (judged s) (shown s) t e
