@@ -1,5 +1,5 @@
 -- The fields of a header, one behind the other, and what is judged of them. Assumes nothing.
-use mathlib.Core.Path.{◌≡◌, ap, ◌∙◌}
+use mathlib.Core.Path.{◌≡◌, ap, ap₂, ◌∙◌}
 use Rattle.std.specs.Prelude.{Result, Ok, Err}
 use Prim.Native.Nat.{ℕ, ◌+◌, ◌≤◌, ◌<◌}
 use native.Mathlib.Numerals.{add-one}
@@ -8,12 +8,12 @@ use mathlib.Core.Bool.{Bool, true, false≢true}
 use mathlib.Core.List.{List, [], ◌∷◌}
 use lib.ListN.{length}
 use lib.Dec.{leb, eqb}
-use Rattle.refusal.specs.Answer.{done_with, is_done, giving}
-use Rattle.refusal.specs.Chain.{unless, ◌then◌, then_done, unless_done}
+use Rattle.refusal.specs.Answer.{Answer, done_with, is_done, giving}
+use Rattle.refusal.specs.Chain.{unless, ◌then◌, then_on, then_work, then_done, unless_ok, unless_done}
 use Rattle.refusal.specs.declared.Later.TheVariants.{BadHeader, BadMaximum}
 use Rattle.refusal.specs.declared.Refusal.TheVariants.{Later}
 use Rattle.refusal.specs.declared.Refused.{Refused}
-use Rattle.pgm.specs.Bytes.{Byte, bytes_from, first_place, starts_with}
+use Rattle.pgm.specs.Bytes.{Byte, is_space, bytes_from, first_place, starts_with}
 use Rattle.pgm.specs.Header.{judge_number, from_width, from_height, from_maximum, from_delimiter}
 use Rattle.pgm.specs.Header.{width_in, height_in, maximum_in, maximum_place, pixels_start}
 use Rattle.pgm.specs.Header.{judge_magic, judge_from_maximum, judge_header, judge_maximum}
@@ -41,6 +41,12 @@ pub kind_judged : {file : List ℕ} {bytes : List Byte} {at : ℕ} {test : Bool}
     → unless test (Later BadHeader) at ≡ unless (starts_with kind bytes) (Later BadHeader) (first_place file bytes)
 kind_judged kind stands e = rw (e, stands.rest, stands_first stands)
 
+-- what is judged last: that white space delimits the pixels, then that the maximum is a byte
+abbrev pub judge_last : List ℕ → Answer
+judge_last file =
+    unless (starts_with is_space (from_delimiter file)) (Later BadHeader) (first_place file (from_delimiter file))
+    then judge_maximum file
+
 module _ {file : List ℕ} {f : Field} (m : IsField file (from_maximum file) f) where
   pub least_judged : unless (leb 1 f.number) (Later BadHeader) f.first
       ≡ unless (leb 1 (maximum_in file)) (Later BadHeader) (maximum_place file)
@@ -49,11 +55,27 @@ module _ {file : List ℕ} {f : Field} (m : IsField file (from_maximum file) f) 
       let number = ap (λ (n : ℕ). leb 1 n) m.number ∙ told_above 1 (maximum_in file) (omega arith) in
       rw (number, m.first)
 
-  pub most_judged : unless (leb f.number 255) (Later BadMaximum) f.first ≡ judge_maximum file
+  most_judged : unless (leb f.number 255) (Later BadMaximum) f.first ≡ judge_maximum file
   unfolding judge_maximum maximum_in maximum_place
   most_judged =
       let number = ap (λ (n : ℕ). leb n 255) m.number ∙ told_below (maximum_in file) 255 (omega arith) in
       rw (number, m.first)
+
+  pub last_judged : {delimited : Bool} {parted small r : Answer}
+      → delimited ≡ starts_with is_space (bytes_from file f.end)
+      → parted ≡ unless delimited (Later BadHeader) f.end
+      → small ≡ unless (leb f.number 255) (Later BadMaximum) f.first
+      → r ≡ (parted then small)
+      → r ≡ judge_last file
+  unfolding from_delimiter
+  last_judged delimited parted small e =
+      e ∙ ap₂ ◌then◌ (parted ∙ kind_judged is_space m.end delimited) (small ∙ most_judged)
+
+pub last_ok : (file : List ℕ) {work : ℕ} → judge_last file ≡ done_with work → judge_last file ≡ done_with 0
+unfolding judge_maximum
+last_ok file e =
+    let parts = then_work _ _ _ e in
+    then_on _ _ parts.0 ∙ unless_ok _ _ _ parts.1
 
 -- ---- the header, field by field: each stands where the one before it ends
 

@@ -8,7 +8,7 @@ ghost use Rattle.pgm.specs.Scanning.{Stands};
 ghost use Rattle.pgm.specs.Fielding.{FieldRead, header_read};
 
 use super::{Header, scan};
-use refusal::chain::refuse_unless;
+use refusal::chain::{first_refusal, refuse_unless};
 use refusal::{Later, Refusal, Refused};
 
 // A number behind white space: the number as it is told, its first digit, and the place behind.
@@ -60,9 +60,10 @@ fn maximum_at(file: &[u8], at: usize) -> Result<Field, Refused>
     let bad = Refusal::Later(Later::BadHeader);
     let above = Refusal::Later(Later::BadMaximum);
     refuse_unless(1 <= maximum.number, bad, maximum.first)?;
-    let delimited = scan::starts_with(file, scan::is_space, maximum.end);
-    refuse_unless(delimited, bad, maximum.end)?;
-    refuse_unless(maximum.number <= 255, above, maximum.first)?;
+    let end = maximum.end;
+    let delimited = refuse_unless(scan::starts_with(file, scan::is_space, end), bad, end);
+    let small = refuse_unless(maximum.number <= 255, above, maximum.first);
+    first_refusal(delimited, small)?;
     Ok(maximum)
 }
 
