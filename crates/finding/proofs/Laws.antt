@@ -38,6 +38,11 @@ unfolding value_of grey_in
 grey_value none = refl
 grey_value (some v) = refl
 
+-- what a grey says
+pub grey_some : (v : ℕ) → grey_in (Some v) ≡ some v
+unfolding grey_in
+grey_some v = refl
+
 pub value_some : (o : maybe.Option ℕ) (w : ℕ) → value_of o ≡ Some w → o ≡ some w
 unfolding value_of
 value_some none w e = absurd cc
@@ -73,10 +78,10 @@ extreme_more low value k n =
     (grey_value (extreme low value (suc k) n))
 
 -- a loop that comes down to place i: nothing at its end, one value more with each place, and all at its start
-pub extreme_end :
-    (low : Bool) (value : ℕ → maybe.Option ℕ) (end : ℕ) → absent ≡ value_of (extreme low value end (end - end))
+pub extreme_none :
+    (low : Bool) (value : ℕ → maybe.Option ℕ) (from n : ℕ) → absent ≡ value_of (extreme low value from (n - n))
 unfolding extreme value_of
-extreme_end low value end = simp sub_self
+extreme_none low value from n = simp sub_self
 
 pub extreme_down :
     (low : Bool) (value : ℕ → maybe.Option ℕ) (i end : ℕ) (x most : Option ℕ) → 0 < i → i ≤ end
@@ -133,11 +138,23 @@ first_absent s row i e =
 
 -- any other becomes its window's extreme
 pub first_there :
+    (s : Search) (row : List (Option ℕ)) (i : ℕ) → (get_or row i absent ≡ absent → ⊥)
+    → value_of (extreme s.low (in_row row) (i - s.back) s.length) ≡ first_pass s row i
+unfolding first_pass pass_in pass_at_place in_row grey_in
+first_there s row i other = by_value (get_or row i absent) refl
+  where
+    by_value : (v : Option ℕ) → get_or row i absent ≡ v
+        → value_of (extreme s.low (in_row row) (i - s.back) s.length) ≡ first_pass s row i
+    by_value None e = absurd (other e)
+    by_value (Some v) e =
+        sym (ap (λ (w : Option ℕ). value_of (pass_at_place s.low s.back s.length (in_row row) i (grey_in w))) e)
+
+-- the same of the window alone, where it lies in the row
+pub first_window :
     (s : Search) (row : List (Option ℕ)) (i v : ℕ) → Lies s (length row) i → get_or row i absent ≡ Some v
     → (window : List (Option ℕ)) → window ≡ take s.length (drop (i - s.back) row)
     → value_of (extreme s.low (in_row window) 0 (length window)) ≡ first_pass s row i
-unfolding first_pass pass_in pass_at_place in_row grey_in
-first_there s row i v lies there window is =
+first_window s row i v lies there window is =
     let begin : ℕ = i - s.back in
     let room : s.length ≤ length (drop begin row) = simp length-drop (omega (arith, lies.begins, lies.ends)) in
     let long : length window ≡ s.length = ap length is ∙ length-take-le s.length (drop begin row) room in
@@ -147,8 +164,7 @@ first_there s row i v lies there window is =
     ∙ ap (λ (q : ℕ). extreme s.low (in_row row) q s.length) (add-zero begin) in
     ap₂ (λ (xs : List (Option ℕ)) (n : ℕ). value_of (extreme s.low (in_row xs) 0 n)) is long
     ∙ ap value_of part
-    ∙ sym
-    (ap (λ (w : Option ℕ). value_of (pass_at_place s.low s.back s.length (in_row row) i (grey_in w))) there)
+    ∙ first_there s row i (λ none_there. cc)
 
 -- the window of each place that is looked over lies in the row
 pub fits_lies :
@@ -195,6 +211,11 @@ first_shifted test test' d k (suc n) same =
     (first_shifted test test' d (suc k) n (λ q h b. same q (omega arith) (omega arith))
     ∙ ap (λ (q : ℕ). first test' q n) (add-suc d k))
 
+-- what the row has at a place whose value is w
+pub row_has : (row : List (Option ℕ)) (j w : ℕ) → in_row row j ≡ some w → get_or row j absent ≡ Some w
+unfolding in_row value_of
+row_has row j w e = sym (value_grey (get_or row j absent)) ∙ ap value_of e
+
 -- the place j of n from k on has the value w
 pub record HasAt (value : ℕ → Option ℕ) (k n : ℕ) (w : Option ℕ) : Type 0 where
   pub at : ℕ
@@ -206,16 +227,11 @@ module _ (s : Search) (row : List (Option ℕ)) (w : ℕ) where
   pass_has :
       (i : ℕ) (o : maybe.Option ℕ) → pass_at_place s.low s.back s.length (in_row row) i o ≡ some w
       → HasAt (λ j. get_or row j absent) (i - s.back) s.length (Some w)
-  unfolding pass_at_place in_row value_of
+  unfolding pass_at_place
   pass_has i none e = absurd (none-ne-some w e)
   pass_has i (some v) e =
       let one = extreme_attained s.low (in_row row) (i - s.back) s.length w e in
-      record {
-        at = one.at;
-        from = one.from;
-        to = one.to;
-        there = sym (value_grey (get_or row one.at absent)) ∙ ap value_of one.there;
-      }
+      record { at = one.at; from = one.from; to = one.to; there = row_has row one.at w one.there }
 
   -- where the first pass gives w, a place of the window has it
   pub window_has : (i : ℕ) → first_pass s row i ≡ Some w

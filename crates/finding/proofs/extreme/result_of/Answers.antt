@@ -2,11 +2,11 @@
 -- Assumes nothing.
 use Rattle.std.proofs.Common.{◌∙◌, arith}
 use Rattle.finding.specs.Row.{first_pass, result_of}
-use Rattle.finding.proofs.Laws.{extreme_end, extreme_down, extreme_whole}
+use Rattle.finding.proofs.Laws.{extreme_none, extreme_down, extreme_whole}
 use Rattle.finding.proofs.extreme.result_of.Goals as goal
 
 pub loop-i-init : goal.loop-i-init
-loop-i-init c = (omega arith, extreme_end _ _ _)
+loop-i-init c = (omega arith, extreme_none _ _ _ _)
 
 pub loop-i-preserved : goal.loop-i-preserved
 unfolding first_pass
