@@ -1,9 +1,10 @@
 -- A page that is listed, and a line's tables for it.
 -- Assumes nothing.
-use Rattle.std.specs.Prelude.{ℕ, ◌≤◌, List, length}
+use Rattle.std.specs.Prelude.{ℕ, ◌≤◌, List, length, eqb}
 use Rattle.geometry.specs.Drift.{Allowed}
 use Rattle.geometry.specs.Tables.{ProfileTable, ReachTable}
 use Rattle.geometry.specs.declared.Line.{Line}
+use Rattle.numbers.specs.declared.order.Asked.{Asked}
 use Rattle.numbers.specs.declared.order.Order.{Order}
 
 -- sides of a page that has pixels, at most 4096 of them: no side is longer
@@ -25,3 +26,12 @@ pub record Listed (l : Line) (profile reach : List ℕ) (w h : ℕ) : Type 0 whe
 pub record Good (o : Order) : Type 0 where
   pub allowed : Allowed o.line
   pub sides : Sides o.w o.h
+
+-- the order that is asked for: the kind 2 is a periodic line
+abbrev pub order_of : Asked → Order
+order_of asked =
+    record {
+      line = record { periodic = eqb asked.kind 2; dx = asked.dx; dy = asked.dy; phase = asked.phase };
+      w = asked.w;
+      h = asked.h;
+    }

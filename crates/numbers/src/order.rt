@@ -2,7 +2,7 @@
 ghost use Rattle.std.specs.Prelude.{◌≡◌, true, ◌||◌, ◌<◌, ◌↔◌, IfSome, IsSome, length};
 ghost use Rattle.vectors.specs.Vector.{major_of, shallow, steep};
 ghost use Rattle.geometry.specs.Drift.{Allowed};
-ghost use Rattle.numbers.specs.Page.{Good, Sides};
+ghost use Rattle.numbers.specs.Page.{Good, Sides, order_of};
 
 use geometry::Line;
 use vectors::{component_size, is_shallow, is_steep, major_of};
@@ -99,7 +99,7 @@ pub fn read(bytes: &[u8]) -> Option<Asked>
 
 // The order that is asked for, if it can be listed.
 pub fn listed(asked: Asked) -> Option<Order>
-    ensures { IfSome result Good }
+    ensures { IfSome result (λ o. Good o × (o ≡ order_of asked)) }
 {
     let Asked {
         kind,
