@@ -8,13 +8,8 @@ use native.Mathlib.Omega.{arith}
 use lib.ListN.{length, get_or, take, drop}
 use lib.Seq.{sets, sets-eq, drop-cons, drop-drop, drop-length}
 use Rattle.ticket.specs.declared.HiddenBox.{HiddenBox}
-use Rattle.ticket.specs.declared.Ticket.{Ticket}
-use Rattle.showing.specs.Shown.{field_numbers, box_numbers, numbers_of}
-
-pub fields_put : (t : Ticket) (l front : List ℕ) → 8 ≤ length l → front ≡ field_numbers t []
-    → front ++ drop 8 l ≡ sets l 0 (field_numbers t [])
-fields_put t l front room e =
-    ap (λ (x : List ℕ). x ++ drop 8 l) e ∙ sym (sets-eq (field_numbers t []) l 0 room)
+use Rattle.showing.specs.Shown.{fields_before, box_numbers, numbers_in}
+use Rattle.showing.specs.declared.shown.Fields.{Fields}
 
 pub box_put : (b : HiddenBox) (at : ℕ) (l front : List ℕ) → at + 4 ≤ length l → front ≡ box_numbers (b ∷ [])
     → take at l ++ (front ++ drop (at + 4 - at) (drop at l)) ≡ sets l at (box_numbers (b ∷ []))
@@ -46,15 +41,15 @@ unfolding box_numbers
 box_count [] = refl
 box_count (b ∷ boxes) = let more = box_count boxes in omega arith
 
-module _ (t : Ticket) (l m n : List ℕ) where
-  pub ticket_put : length t.boxes ≡ 64 → 264 ≤ length l
-      → m ≡ sets l 0 (field_numbers t [])
-      → n ≡ sets m 8 (box_numbers t.boxes)
-      → n ≡ numbers_of t ++ drop 264 l
-  ticket_put places room fields boxes =
-      let count = box_count t.boxes in
-      let all : length (numbers_of t) ≡ 264 = omega arith in
+module _ (f : Fields) (places : List HiddenBox) (l m n : List ℕ) where
+  pub ticket_put : length places ≡ 64 → 264 ≤ length l
+      → m ≡ sets l 0 (fields_before f [])
+      → n ≡ sets m 8 (box_numbers places)
+      → n ≡ numbers_in f places ++ drop 264 l
+  ticket_put all_places room fields boxes =
+      let count = box_count places in
+      let all : length (numbers_in f places) ≡ 264 = omega arith in
       boxes
-      ∙ ap (λ (x : List ℕ). sets x 8 (box_numbers t.boxes)) fields
-      ∙ sets-eq (numbers_of t) l 0 (omega arith)
-      ∙ ap (λ (j : ℕ). numbers_of t ++ drop j l) (zero-add (length (numbers_of t)) ∙ all)
+      ∙ ap (λ (x : List ℕ). sets x 8 (box_numbers places)) fields
+      ∙ sets-eq (numbers_in f places) l 0 (omega arith)
+      ∙ ap (λ (j : ℕ). numbers_in f places ++ drop j l) (zero-add (length (numbers_in f places)) ∙ all)

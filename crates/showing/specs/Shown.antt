@@ -13,17 +13,34 @@ use Rattle.ticket.specs.declared.HiddenBox.{HiddenBox}
 use Rattle.ticket.specs.declared.Ticket.{Ticket}
 use Rattle.showing.specs.Outcome.{outcome_of}
 use Rattle.showing.specs.declared.Outcome.{Outcome}
+use Rattle.showing.specs.declared.shown.Fields.{Fields}
 
 -- a signed number in 64 bits, two's complement
 unfoldable pub word_of : ℤ → ℕ
 word_of (pos n) = n
 word_of (negsuc n) = 18446744073709551615 - n
 
--- eight numbers, before the rest
+-- eight numbers, whatever they are, before the rest
+abbrev pub fields_before : Fields → List ℕ → List ℕ
+fields_before f rest =
+    f.operation ∷ f.line ∷ word_of f.dx ∷ word_of f.dy ∷ f.length ∷ f.origin ∷ f.phase ∷ f.count ∷ rest
+
+-- those of a ticket: its operation and its line have a number each
+abbrev pub fields_of : Ticket → Fields
+fields_of t =
+    record {
+      operation = operation_number t.operation;
+      line = line_number t.line;
+      dx = t.dx;
+      dy = t.dy;
+      length = t.length;
+      origin = t.origin;
+      phase = t.phase;
+      count = t.count;
+    }
+
 abbrev pub field_numbers : Ticket → List ℕ → List ℕ
-field_numbers t rest =
-    operation_number t.operation ∷ line_number t.line ∷ word_of t.dx ∷ word_of t.dy ∷ t.length ∷ t.origin ∷ t.phase ∷ t.count
-    ∷ rest
+field_numbers t rest = fields_before (fields_of t) rest
 
 -- four numbers a box
 unfoldable pub box_numbers : List HiddenBox → List ℕ
@@ -31,6 +48,10 @@ box_numbers [] = []
 box_numbers (b ∷ boxes) = b.left ∷ b.top ∷ b.width ∷ b.height ∷ box_numbers boxes
 
 -- the fields, how many boxes there are, and 64 box places
+abbrev pub numbers_in : Fields → List HiddenBox → List ℕ
+numbers_in f places = fields_before f (box_numbers places)
+
+-- and those of a ticket
 abbrev pub numbers_of : Ticket → List ℕ
 numbers_of t = field_numbers t (box_numbers t.boxes)
 

@@ -9,9 +9,10 @@ loop-k-init c = refl
 
 pub loop-k-preserved : goal.loop-k-preserved
 loop-k-preserved c =
-    box_more c.args.boxes c.loop-k.k c.loop-k.numbers _ _ (omega (arith, c.requires.0)) c.put_box.ensures
+    box_more c.args.boxes.now c.loop-k.k c.loop-k.numbers _ _ (omega (arith, c.requires.0)) c.put_box.ensures
     ∙ c.loop-k.invariant
 
 pub returns : goal.returns
 returns c =
-    boxes_put c.args.boxes c.loop-k.k c.loop-k.numbers _ (omega (arith, c.requires.0)) c.requires.0 c.loop-k.invariant
+    boxes_put c.args.boxes.now c.loop-k.k c.loop-k.numbers _ (omega (arith, c.requires.0)) c.requires.0
+    c.loop-k.invariant

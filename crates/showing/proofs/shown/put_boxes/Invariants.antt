@@ -8,4 +8,4 @@ use Rattle.showing.proofs.shown.put_boxes.Given as goal
 
 abbrev pub invariant-loop-k : goal.invariant-loop-k
 invariant-loop-k l =
-    sets l.numbers (8 + 4 * l.k) (box_numbers (drop l.k l.b-items)) ≡ sets l.initial.numbers 8 (box_numbers l.b-items)
+    sets l.numbers (8 + 4 * l.k) (box_numbers (drop l.k l.boxes)) ≡ sets l.initial.numbers 8 (box_numbers l.boxes)
