@@ -6,9 +6,8 @@ use Rattle.std.proofs.Math.Option as maybe
 use Rattle.std.proofs.Math.Option.{none, some}
 use Rattle.std.proofs.lemmas.List.{get_or-set_same, get_or-set_other}
 use borrow.Author.Count.{below_more}
-use Rattle.ticket.specs.declared.Ticket.{Ticket}
 use Rattle.ticket.specs.declared.HiddenBox.{HiddenBox}
-use Rattle.boxes.specs.Boxes.{answers, hidden, boxes_of}
+use Rattle.boxes.specs.Boxes.{answers, hidden}
 use Rattle.boxes.specs.First.{hidden_found}
 use Rattle.boxes.specs.declared.Question.TheVariants.{Holds}
 use Rattle.placement.specs.Placement as placed
@@ -16,7 +15,7 @@ use Rattle.placement.specs.declared.Placement.{Placement}
 use Rattle.filter.specs.Seen.{seen, turned}
 use Rattle.finding.specs.Row.{absent, value_of}
 use Rattle.nearby.specs.Stand.{pixel_in, near_at}
-use Rattle.nearby.specs.Promises.{OfPage}
+use Rattle.nearby.specs.Promises.{OnPage}
 use Rattle.nearby.specs.Laws.{seen_near}
 use Rattle.nearby.specs.declared.Pixel.{Pixel}
 use Rattle.nearby.specs.declared.Standing.{Standing}
@@ -40,24 +39,24 @@ found_hides boxes c r is = ap is_some is ∙ hidden_found boxes c r
 -- ---- the row
 
 -- the value that belongs at place i of the row
-abbrev pub belongs : Ticket → Standing → Placement → List ℕ → ℕ → Option ℕ
-belongs t s p tray i =
-    value_of (near_at s (turned s.steep (seen (boxes_of t) p.width p.height (placed.pixel_in tray p))) i)
+abbrev pub belongs : List HiddenBox → Standing → Placement → List ℕ → ℕ → Option ℕ
+belongs boxes s p tray i =
+    value_of (near_at s (turned s.steep (seen boxes p.width p.height (placed.pixel_in tray p))) i)
 
 -- what is seen at the pixel of place i belongs there
 pub value_near :
-    (t : Ticket) (s : Standing) (p : Placement) (tray : List ℕ) (n i : ℕ) → OfPage t s p n
+    (boxes : List HiddenBox) (s : Standing) (p : Placement) (tray : List ℕ) (n i : ℕ) → OnPage s p n
     → (at : Pixel) → at ≡ pixel_in s i
     → (v : Option ℕ)
-    → v ≡ value_of (seen (boxes_of t) p.width p.height (placed.pixel_in tray p) at.column at.row)
-    → v ≡ belongs t s p tray i
-value_near t s p tray n i page at at-is v v-is =
+    → v ≡ value_of (seen boxes p.width p.height (placed.pixel_in tray p) at.column at.row)
+    → v ≡ belongs boxes s p tray i
+value_near boxes s p tray n i page at at-is v v-is =
     v-is
     ∙ ap
-    (λ (x : Pixel). value_of (seen (boxes_of t) p.width p.height (placed.pixel_in tray p) x.column x.row))
+    (λ (x : Pixel). value_of (seen boxes p.width p.height (placed.pixel_in tray p) x.column x.row))
     at-is
     ∙ ap value_of
-    (seen_near (boxes_of t) p.width p.height (placed.pixel_in tray p) s i page.high_is page.wide_is)
+    (seen_near boxes p.width p.height (placed.pixel_in tray p) s i page.high_is page.wide_is)
 
 -- one more entry is right
 pub store_more :

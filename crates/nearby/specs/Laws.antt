@@ -57,7 +57,7 @@ pub standing_page :
     → OfPage t (standing_of l reach p.width p.height at) p bytes
 unfolding standing_of
 standing_page t l reach at p bytes placed few =
-    record { placed = placed; high_is = refl; wide_is = refl; count_near = few }
+    record { page = record { placed = placed; high_is = refl; wide_is = refl }; count_near = few }
 
 -- ---- the places of the row on the two axes
 

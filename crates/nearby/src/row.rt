@@ -3,13 +3,13 @@ ghost use Rattle.std.specs.Prelude.{◌≡◌, ◌≤◌, length};
 ghost use Rattle.placement.specs.Placement as placed;
 ghost use Rattle.filter.specs.Seen.{seen};
 ghost use Rattle.finding.specs.Row.{value_of};
-ghost use Rattle.nearby.specs.Promises.{Stands, Tabled, OfPage, RowNear};
+ghost use Rattle.nearby.specs.Promises.{Stands, Tabled, OnPage, RowAmong};
 
 use super::place::pixel_in;
 use super::{Pixel, Standing};
 use boxes::Question;
 use placement::Placement;
-use ticket::{HiddenBox, Ticket};
+use ticket::HiddenBox;
 
 // What a filter sees at a pixel that may be off the page: its grey, or nothing where it is absent. The boxes are lent:
 // a ticket's would be copied for each pixel.
@@ -31,7 +31,7 @@ fn value_at(boxes: &[HiddenBox], source: &[u8], from: Placement, at: Pixel) -> O
 
 // Fills a row with the values near a pixel.
 pub fn fill_row(
-    t: Ticket,
+    boxes: &[HiddenBox],
     s: Standing,
     source: &[u8],
     from: Placement,
@@ -40,12 +40,11 @@ pub fn fill_row(
 )
     requires stands { Stands s }
     requires tabled { Tabled s profile.now }
-    requires of_page { OfPage t s from (length source.now) }
+    requires of_page { OnPage s from (length source.now) }
     requires row_len_bound { length row.old ≤ 16383 }
     ensures same_length { length row.new ≡ length row.old }
-    ensures filled { RowNear t s from source.now row.new }
+    ensures filled { RowAmong boxes.now s from source.now row.new }
 {
-    let boxes = &t.boxes[..t.count];
     for (i, value) in row.iter_mut().enumerate() {
         *value = value_at(boxes, source, from, pixel_in(s, profile, i));
     }

@@ -69,7 +69,7 @@ fn by_steps(
     let line = job::order::line_of(t);
     let s = standing_of(line, t.length - 1, from.width, from.height, at);
     geometry::profile::fill_profile(line, profile);
-    fill_row(t, s, source, from, profile, row);
+    fill_row(&t.boxes[..t.count], s, source, from, profile, row);
     named_in(t, s, profile, row)
 }
 

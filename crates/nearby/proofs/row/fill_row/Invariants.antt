@@ -6,4 +6,4 @@ use Rattle.nearby.proofs.Rows.{belongs}
 use Rattle.nearby.proofs.row.fill_row.Given as goal
 
 abbrev pub invariant-loop-i : goal.invariant-loop-i
-invariant-loop-i l = (k : ℕ) → k < l.i → get_or l.row k absent ≡ belongs l.fn.t l.s l.from l.source k
+invariant-loop-i l = (k : ℕ) → k < l.i → get_or l.row k absent ≡ belongs l.boxes l.s l.from l.source k

@@ -2,6 +2,7 @@
 use mathlib.Core.Path.{ap, ◌∙◌}
 use Prim.Native.Nat.{suc}
 use native.Mathlib.Omega.{arith}
+use Rattle.boxes.specs.Boxes.{boxes_of}
 use Rattle.why.proofs.Gathering as gathering
 use Rattle.why.proofs.steps.by_steps.Goals as goal
 
@@ -27,11 +28,12 @@ fill_row-requires c =
     record {
       stands = gathering.stands _ _ tray _ asked _ line-is _ s-is;
       tabled = gathering.tabled _ _ tray _ asked _ line-is _ s-is _ long c.fill_profile.ensures.tabled;
-      of_page = gathering.of_page _ _ tray _ asked _ line-is _ s-is;
+      of_page = (gathering.of_page _ _ tray _ asked _ line-is _ s-is).page;
       row_len_bound = gathering.short _ _ tray _ asked _ line-is _ s-is row c.requires.profile_len.1;
     }
 
 pub named_in-requires : goal.named_in-requires
+unfolding boxes_of
 named_in-requires c =
     gathering.searched _ _ c.args.source.now _ c.requires.asked _ c.line_of-line.ensures _
     c.standing_of-s.ensures _ (ap suc c.fill_row.ensures.same_length ∙ c.requires.profile_len.1)
@@ -39,6 +41,7 @@ named_in-requires c =
     (c.fill_profile.ensures.same_length ∙ c.requires.profile_len.0) c.fill_profile.ensures.tabled
 
 pub returns : goal.returns
+unfolding boxes_of
 returns c =
     gathering.tells _ _ c.args.source.now _ c.requires.asked _ c.line_of-line.ensures _
     c.standing_of-s.ensures _ (ap suc c.fill_row.ensures.same_length ∙ c.requires.profile_len.1)
