@@ -92,7 +92,7 @@ module _ (asked : HiddenBox → Bool) where
       omega (arith, apart)
 
   -- the number that a search gives is the first one's, and where it gives none no box answers
-  first_position : (boxes : List HiddenBox) → first_of asked boxes ≡ position_or_len asked boxes
+  pub first_position : (boxes : List HiddenBox) → first_of asked boxes ≡ position_or_len asked boxes
   unfolding first_of
   first_position =
       is_position_or_len (first_of asked) asked refl

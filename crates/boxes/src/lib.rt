@@ -5,10 +5,10 @@
 #![tactic(auto)]
 
 ghost use Rattle.std.specs.Prelude.{◌≡◌, ◌+◌, ◌≤◌, ◌&&◌, leb, ltb, take, length, position};
-ghost use Rattle.boxes.specs.Boxes.{covers, hidden, boxes_of, box_allowed, answers};
+ghost use Rattle.boxes.specs.Boxes.{covers, hidden, box_allowed, answers};
 ghost use Rattle.ticket.specs.declared.HiddenBox.{HiddenBox};
 
-use ticket::{HiddenBox, Ticket};
+use ticket::HiddenBox;
 
 // What is asked of a box: whether it holds a pixel, or whether it is not allowed on a page.
 #[derive(Clone, Copy)]
@@ -69,10 +69,16 @@ pub fn answers(q: Question, b: HiddenBox) -> bool
 }
 
 // The number of the first of the lent boxes that answers, if one does.
+#[tactic(auto, using(crate::proofs::Searching::asked_here))]
 pub fn first(boxes: &[HiddenBox], q: Question) -> Option<usize>
     ensures { result ≡ position (answers q) boxes.now }
 {
-    boxes.iter().position(|b| answers(q, *b))
+    for (k, b) in boxes.iter().enumerate() {
+        if answers(q, *b) {
+            return Some(k);
+        }
+    }
+    None
 }
 
 // The same of the first count boxes of an array: the array's front is lent.
@@ -84,19 +90,18 @@ pub fn first_of(boxes: [HiddenBox; 64], count: usize, q: Question) -> Option<usi
     first(&boxes[..count], q)
 }
 
-// Whether one of a ticket's boxes hides the pixel.
-pub fn hides(t: Ticket, c: usize, r: usize) -> bool
-    requires { t.count ≤ 64 }
-    ensures { result ≡ hidden (boxes_of t) c r }
+// Whether one of the lent boxes hides the pixel.
+#[tactic(auto, using(crate::proofs::Searching::hidden_position))]
+pub fn hides(boxes: &[HiddenBox], c: usize, r: usize) -> bool
+    ensures { result ≡ hidden boxes.now c r }
 {
-    let found = first_of(t.boxes, t.count, Question::Holds { column: c, row: r });
+    let found = first(boxes, Question::Holds { column: c, row: r });
     found.is_some()
 }
 
-// The number of the first of a ticket's boxes that is not allowed on the page, if there is one.
-pub fn first_refused(t: Ticket, width: usize, height: usize) -> Option<usize>
-    requires { t.count ≤ 64 }
-    ensures { result ≡ position (answers (Question.NotAllowed width height)) (boxes_of t) }
+// The number of the first of the lent boxes that is not allowed on the page, if there is one.
+pub fn first_refused(boxes: &[HiddenBox], width: usize, height: usize) -> Option<usize>
+    ensures { result ≡ position (answers (Question.NotAllowed width height)) boxes.now }
 {
-    first_of(t.boxes, t.count, Question::NotAllowed { width, height })
+    first(boxes, Question::NotAllowed { width, height })
 }

@@ -36,7 +36,7 @@ fn finish(
     let from = place::source_page(p);
     let to = place::output_page(p);
     let work = filter(how, source, from, output, to, scratch);
-    let used = place::scratch_needed(pages_of(t), p.width, p.height);
+    let used = place::scratch_needed(pages_of(), p.width, p.height);
     tray::paint::clear(scratch, used);
     work
 }
@@ -59,7 +59,7 @@ pub fn run_read(
         output: output.len(),
         scratch: scratch.len(),
     };
-    judge(t, p, n)?;
+    judge(&t.boxes[..t.count], p, n)?;
     let work = finish(t, white, p, source, output, scratch);
     Ok(work as u64)
 }

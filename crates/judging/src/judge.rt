@@ -1,6 +1,7 @@
 // Refusals 10 to 14: whether a job's pages and boxes lie where they may. Each is a test of its own, so that a call
 // that has no output page can leave its test out.
-ghost use Rattle.std.specs.Prelude.{◌≡◌, ◌≤◌, length};
+ghost use Rattle.std.specs.Prelude.{◌≡◌, ◌≤◌};
+ghost use Rattle.ticket.specs.declared.Ticket.{Ticket};
 ghost use Rattle.placement.specs.Placement.{longest_side, most_pages};
 ghost use Rattle.boxes.specs.Boxes.{boxes_of};
 ghost use Rattle.judging.specs.Judging.{judge_sides, judge_source, judge_output, judge_scratch, judge_page_boxes};
@@ -9,9 +10,9 @@ ghost use Rattle.judging.specs.Judging.{judge_places};
 use super::Lengths;
 use super::pages::pages_of;
 use placement::{Placements, place};
-use refusal::chain::refuse_unless;
+use refusal::chain::{first_refusal, refuse_unless};
 use refusal::{Refusal, Refused};
-use ticket::Ticket;
+use ticket::HiddenBox;
 
 // 10: both pages are within the limits.
 pub fn judge_sides(p: Placements) -> Result<u64, Refused>
@@ -52,12 +53,11 @@ pub fn judge_scratch(
     refuse_unless(needed <= length, Refusal::ScratchTooShort, 0)
 }
 
-// 14: every box of the ticket lies on the page; the place is the first one that does not.
-pub fn judge_boxes(t: Ticket, width: usize, height: usize) -> Result<u64, Refused>
-    requires { (t.count ≤ 64) × (length t.boxes ≡ 64) }
-    ensures { result ≡ judge_page_boxes width height (boxes_of t) }
+// 14: every lent box lies on the page; the place is the first one that does not.
+pub fn judge_boxes(boxes: &[HiddenBox], width: usize, height: usize) -> Result<u64, Refused>
+    ensures { result ≡ judge_page_boxes width height boxes.now }
 {
-    match boxes::first_refused(t, width, height) {
+    match boxes::first_refused(boxes, width, height) {
         Some(first) => Err(Refused {
             refusal: Refusal::BadBox,
             at: first,
@@ -66,15 +66,16 @@ pub fn judge_boxes(t: Ticket, width: usize, height: usize) -> Result<u64, Refuse
     }
 }
 
-// The first of refusals 10 to 14; without one it is done, with no work yet. The scratch is judged only for sides
-// within their limits.
-pub fn judge(t: Ticket, p: Placements, n: Lengths) -> Result<u64, Refused>
-    requires { (t.count ≤ 64) × (length t.boxes ≡ 64) }
-    ensures { result ≡ judge_places t p n }
+// The first of refusals 10 to 14 for every ticket with these boxes; without one it is done, with no work yet. The
+// scratch is judged only for sides within their limits.
+pub fn judge(boxes: &[HiddenBox], p: Placements, n: Lengths) -> Result<u64, Refused>
+    ensures { (t : Ticket) → boxes_of t ≡ boxes.now → result ≡ judge_places t p n }
 {
     judge_sides(p)?;
-    judge_source(p, n.source)?;
-    judge_output(p, n.output)?;
-    judge_scratch(pages_of(t), p.width, p.height, n.scratch)?;
-    judge_boxes(t, p.width, p.height)
+    let source = judge_source(p, n.source);
+    let output = judge_output(p, n.output);
+    first_refusal(source, output)?;
+    let scratch = judge_scratch(pages_of(), p.width, p.height, n.scratch);
+    let boxes = judge_boxes(boxes, p.width, p.height);
+    first_refusal(scratch, boxes)
 }

@@ -131,7 +131,7 @@ pub extern "C" fn sotrugla_is_hidden(ticket: &[u8], column: usize, row: usize) -
 {
     match ticket::read(ticket) {
         Ok(read) => {
-            if boxes::hides(read, column, row) {
+            if boxes::hides(&read.boxes[..read.count], column, row) {
                 1
             } else {
                 0

@@ -8,7 +8,7 @@ use lib.Dec.{ltb}
 use lib.ListN.{length}
 use Rattle.std.specs.Prelude.{Result, Ok, Err}
 use Rattle.refusal.specs.Answer.{Answer, is_done, giving}
-use Rattle.refusal.specs.Chain.{◌then◌, then_on, then_err, then_ok, unless_done, giving_on, giving_err, ok_done}
+use Rattle.refusal.specs.Chain.{◌then◌, then_on, then_done, then_err, unless_done, giving_on, giving_err, ok_done}
 use Rattle.refusal.specs.declared.Later.TheVariants.{PixelOffPage}
 use Rattle.refusal.specs.declared.Refusal.TheVariants.{Later}
 use Rattle.refusal.specs.declared.Refused.{Refused}
@@ -58,49 +58,44 @@ module _ (ticket : List ℕ) (p : Placements) (source : List ℕ) (output scratc
         then_on (judged ticket) _ good.0
         ∙ ap (λ (q : Ticket). judge_places q p (lengths_of source output scratch) then judge_pixel p at) good.1
 
-    module _ {places : Answer} (places_is : places ≡ judge_places t p (lengths_of source output scratch)) where
-      -- the job is
-      pub job_refused : {refused : Refused} {given : Result Reason Refused} → places ≡ Err refused
+    -- the job and the pixel, of which the first refusal counts
+    module _ {places pixel first : Answer} (places_is : places ≡ judge_places t p (lengths_of source output scratch))
+        (pixel_is : pixel ≡ judge_pixel p at) (first_is : first ≡ (places then pixel)) where
+      whole : why_answer ticket p (lengths_of source output scratch) at ≡ first
+      whole = behind ∙ ap₂ ◌then◌ (sym places_is) (sym pixel_is) ∙ sym first_is
+
+      pub job_refused : {refused : Refused} {given : Result Reason Refused} → first ≡ Err refused
           → given ≡ Err refused
           → given ≡ told ticket p source output scratch at
-      job_refused was =
-          refused_as (behind ∙ ap (λ (a : Answer). a then judge_pixel p at) (sym places_is ∙ was) ∙ then_err _ _)
+      job_refused was = refused_as (whole ∙ was)
 
-      module _ {work : ℕ} (placed : places ≡ Ok work) where
-        passed : why_answer ticket p (lengths_of source output scratch) at ≡ judge_pixel p at
-        passed = behind ∙ ap (λ (a : Answer). a then judge_pixel p at) (sym places_is ∙ placed) ∙ then_ok work _
+      -- nothing is refused: the pixel is one of the page, and the page stands in its tray
+      module _ {none : ℕ} (on : first ≡ Ok none) {from : Placement} (from_is : from ≡ source_page p) where
+        both_done : (is_done places ≡ true) × (is_done pixel ≡ true)
+        both_done = then_done places pixel (ap is_done (sym first_is ∙ on) ∙ ok_done none)
 
-        module _ {pixel : Answer} (pixel_is : pixel ≡ judge_pixel p at) where
-          -- the pixel is
-          pub pixel_refused : {refused : Refused} {given : Result Reason Refused} → pixel ≡ Err refused
-              → given ≡ Err refused
-              → given ≡ told ticket p source output scratch at
-          pixel_refused was = refused_as (passed ∙ sym pixel_is ∙ was)
+        pub asked : Bytes ticket → Asked t from (length source) at
+        unfolding judge_pixel source_page
+        asked bytes =
+            let sides =
+            (and-eq-true_iff (ltb at.column p.width) (ltb at.row p.height)).0
+            (unless_done _ (Later PixelOffPage) 0 (ap is_done (sym pixel_is) ∙ both_done.1)) in
+            let stand =
+            stands t p (lengths_of source output scratch) (ap is_done (sym places_is) ∙ both_done.0) in
+            rw from_is
+            (record {
+              ticket = read_allowed ticket t bytes is;
+              placed = stand.from;
+              column_in = ltb-true _ _ sides.0;
+              row_in = ltb-true _ _ sides.1;
+            })
 
-          -- nothing is refused: the pixel is one of the page, and the page stands in its tray
-          module _ {none : ℕ} (on : pixel ≡ Ok none) {from : Placement} (from_is : from ≡ source_page p) where
-            pub asked : Bytes ticket → Asked t from (length source) at
-            unfolding judge_pixel source_page
-            asked bytes =
-                let sides =
-                (and-eq-true_iff (ltb at.column p.width) (ltb at.row p.height)).0
-                (unless_done _ (Later PixelOffPage) 0 (ap is_done (sym pixel_is ∙ on) ∙ ok_done none)) in
-                let stand =
-                stands t p (lengths_of source output scratch) (ap is_done (sym places_is ∙ placed) ∙ ok_done work) in
-                rw from_is
-                (record {
-                  ticket = read_allowed ticket t bytes is;
-                  placed = stand.from;
-                  column_in = ltb-true _ _ sides.0;
-                  row_in = ltb-true _ _ sides.1;
-                })
-
-            pub reason_told : {reason : Reason} → reason ≡ reason_of t from source at
-                → ◌≡◌ {A = Result Reason Refused} (Ok reason) (told ticket p source output scratch at)
-            unfolding told
-            reason_told reason_is =
-                let whole : Answer = why_answer ticket p (lengths_of source output scratch) at in
-                let done : is_done whole ≡ true = ap is_done (passed ∙ sym pixel_is ∙ on) ∙ ok_done none in
-                ap Ok
-                (reason_is ∙ ap₂ (λ (q : Ticket) (r : Placement). reason_of q r source at) (sym good.1) from_is)
-                ∙ sym (giving_on whole (reason_of (shown ticket) (source_page p) source at) done)
+        pub reason_told : {reason : Reason} → reason ≡ reason_of t from source at
+            → ◌≡◌ {A = Result Reason Refused} (Ok reason) (told ticket p source output scratch at)
+        unfolding told
+        reason_told reason_is =
+            let answer : Answer = why_answer ticket p (lengths_of source output scratch) at in
+            let done : is_done answer ≡ true = ap is_done (whole ∙ on) ∙ ok_done none in
+            ap Ok
+            (reason_is ∙ ap₂ (λ (q : Ticket) (r : Placement). reason_of q r source at) (sym good.1) from_is)
+            ∙ sym (giving_on answer (reason_of (shown ticket) (source_page p) source at) done)

@@ -8,7 +8,7 @@ use judging::Lengths;
 use judging::judge::judge;
 use nearby::Pixel;
 use placement::{Placements, place};
-use refusal::chain::refuse_unless;
+use refusal::chain::{first_refusal, refuse_unless};
 use refusal::{Later, Refusal, Refused};
 
 // 19: the pixel is one of the page.
@@ -39,7 +39,8 @@ pub fn why(
         output,
         scratch,
     };
-    judge(read, p, n)?;
-    judge_pixel(p, at)?;
+    let boxes = &read.boxes[..read.count];
+    let places = judge(boxes, p, n);
+    first_refusal(places, judge_pixel(p, at))?;
     Ok(reason_of(read, source, place::source_page(p), at))
 }

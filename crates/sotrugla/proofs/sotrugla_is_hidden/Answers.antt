@@ -17,9 +17,17 @@ use Rattle.showing.specs.Laws.{read_showable}
 use Rattle.sotrugla.specs.Hiding.{hidden_by, refused_hides_nothing}
 use Rattle.sotrugla.proofs.sotrugla_is_hidden.Goals as goal
 
-pub hides-requires : goal.hides-requires
-hides-requires c =
-    (read_showable c.args.ticket.now _ (λ k. omega (arith, c.type_inv.ticket k)) (sym c.read.ensures ∙ c.in-Ok.is)).count_to
+pub slice_bounds-hides-end : goal.slice_bounds-hides-end
+slice_bounds-hides-end c =
+    let shows =
+    read_showable c.args.ticket.now _ (λ k. omega (arith, c.type_inv.ticket k)) (sym c.read.ensures ∙ c.in-Ok.is) in
+    omega (arith, shows.count_to)
+
+pub shared_ref_as_front-hides : goal.shared_ref_as_front-hides
+shared_ref_as_front-hides c =
+    let shows =
+    read_showable c.args.ticket.now _ (λ k. omega (arith, c.type_inv.ticket k)) (sym c.read.ensures ∙ c.in-Ok.is) in
+    shows.count_to
 
 -- what was asked of the ticket as read, and how it was answered
 answered : (s : List ℕ) (t : Ticket) (column row : ℕ) {asked found : Bool} → reading s ≡ Ok t
@@ -33,10 +41,12 @@ answered s t column row {asked} {found} is hides answer =
     ∙ sym (when_done_lem (judged s) (cond (hidden (boxes_of (shown s)) column row) 1 0) 0 good.0)
 
 pub returns-then-hides : goal.returns-then-hides
+unfolding boxes_of
 returns-then-hides c =
     answered _ _ _ _ (sym c.read.ensures ∙ c.in-Ok.is) c.hides.ensures c.if-hides.true
 
 pub returns-else-hides : goal.returns-else-hides
+unfolding boxes_of
 returns-else-hides c =
     answered _ _ _ _ (sym c.read.ensures ∙ c.in-Ok.is) c.hides.ensures c.if-hides.false
 

@@ -3,6 +3,6 @@ use mathlib.Core.Path.{refl}
 use Rattle.judging.specs.Pages.{pages_of}
 use Rattle.judging.proofs.pages.pages_of.Goals as goal
 
-pub returns : goal.returns
+pub returns-clause-every_job : goal.returns-clause-every_job
 unfolding pages_of
-returns c = refl
+returns-clause-every_job c = λ t. refl
