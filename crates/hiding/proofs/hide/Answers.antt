@@ -12,5 +12,5 @@ pub loop-b-preserved : goal.loop-b-preserved
 loop-b-preserved c =
     let a = c.args in
     let l = c.loop-b in
-    painted_more a.lay a.value a.boxes.now l.b-index _ a.page.now l.page c.hide_one.new.page c.loop-b-test.true
+    painted_more a.lay a.value _ l.b-index _ a.page.now l.page c.hide_one.new.page c.loop-b-test.true
     l.invariant c.hide_one.ensures
