@@ -10,7 +10,7 @@ use lib.ListN.{length, get_or}
 use lib.Seq.{ext_get_or}
 use Rattle.std.specs.Prelude.{Ok, Err}
 use Rattle.refusal.specs.Answer.{when_done, Answer, done_with}
-use Rattle.refusal.specs.Chain.{then_on, then_err, then_ok}
+use Rattle.refusal.specs.Chain.{then_on, then_err, then_ok, handed_on}
 use Rattle.refusal.specs.declared.Refused.{Refused}
 use Rattle.ticket.specs.Judging.{judged}
 use Rattle.ticket.specs.Laws.{read_good, read_refused}
@@ -191,44 +191,50 @@ module _ (t : Ticket) (white : ℕ) (p : Placements) (source output scratch : Li
 
 -- ---- the job
 
-module _ (ticket : List ℕ) (p : Placements) (source output scratch : List ℕ) where
-  module _ {refused : Refused} (is : reading ticket ≡ Err refused) where
-    refused_whole : answer ticket p (lengths source output scratch) ≡ Err refused
-    unfolding answer
-    refused_whole = rw (read_refused ticket refused is, then_err) refl
+-- a ticket that is refused
+module _ (ticket : List ℕ) (p : Placements) where
+  pub unread_answer : (n : Lengths) (refused : Refused) → reading ticket ≡ Err refused → answer ticket p n ≡ Err refused
+  unfolding answer
+  unread_answer n refused is = rw (read_refused ticket refused is, then_err) refl
 
-    pub job_refused : {given : Answer} → given ≡ Err refused
-        → (given ≡ answer ticket p (lengths source output scratch))
-        × ((output ≡ output_after ticket p source output scratch)
-        × (scratch ≡ scratch_after ticket p source output scratch))
-    unfolding output_after scratch_after when_done
-    job_refused told = (told ∙ sym refused_whole, (rw refused_whole refl, rw refused_whole refl))
+  module _ (source output scratch : List ℕ) (refused : Refused) (is : reading ticket ≡ Err refused) where
+    pub unread_output : output_after ticket p source output scratch ≡ output
+    unfolding output_after when_done
+    unread_output = rw (unread_answer (lengths source output scratch) refused is) refl
 
-  module _ {t : Ticket} (is : reading ticket ≡ Ok t) (after used : List ℕ) (given : Answer) where
-    read_whole : RanRead (shown ticket) white p source output scratch after used given
-        → given ≡ answer ticket p (lengths source output scratch)
-    unfolding answer
-    read_whole ran = ran.answered ∙ sym (then_on (judged ticket) _ (read_good ticket t is).0)
+    pub unread_scratch : scratch_after ticket p source output scratch ≡ scratch
+    unfolding scratch_after when_done
+    unread_scratch = rw (unread_answer (lengths source output scratch) refused is) refl
 
-    pub job_read :
-        RanRead t white p source output scratch after used given
-        → (given ≡ answer ticket p (lengths source output scratch))
-        × ((after ≡ output_after ticket p source output scratch)
-        × (used ≡ scratch_after ticket p source output scratch))
-    unfolding output_after scratch_after
-    job_read ran =
-        let mine =
-        subst (λ (q : Ticket). RanRead q white p source output scratch after used given)
-        (sym (read_good ticket t is).1) ran in
-        let same = read_whole mine in (
-          same,
-          (
-            mine.written_is
-                ∙ ap
-                (λ (a : Answer).
-                when_done a (written (output_page p) (finished (shown ticket) (source_page p) source) output) output)
-                same,
-            mine.used_is
-                ∙ ap (λ (a : Answer). when_done a (cleared (job_scratch (shown ticket) p) scratch) scratch) same,
-          ),
-        )
+-- what `job::run` needs of it, in whatever form the code hands the refusal on
+pub ruleset unread = (unread_answer, unread_output, unread_scratch, handed_on)
+
+-- one that is read
+module _ (ticket : List ℕ) (p : Placements) (source output scratch : List ℕ) {t : Ticket} (after used : List ℕ)
+    (given : Answer) (done : RanRead t white p source output scratch after used given) (is : reading ticket ≡ Ok t) where
+  mine : RanRead (shown ticket) white p source output scratch after used given
+  mine =
+      subst (λ (q : Ticket). RanRead q white p source output scratch after used given)
+      (sym (read_good ticket t is).1) done
+
+  read_whole : given ≡ answer ticket p (lengths source output scratch)
+  unfolding answer
+  read_whole = mine.answered ∙ sym (then_on (judged ticket) _ (read_good ticket t is).0)
+
+  pub job_read :
+      (given ≡ answer ticket p (lengths source output scratch))
+      × ((after ≡ output_after ticket p source output scratch)
+      × (used ≡ scratch_after ticket p source output scratch))
+  unfolding output_after scratch_after
+  job_read = (
+    read_whole,
+    (
+      mine.written_is
+          ∙ ap
+          (λ (a : Answer).
+          when_done a (written (output_page p) (finished (shown ticket) (source_page p) source) output) output)
+          read_whole,
+      mine.used_is
+          ∙ ap (λ (a : Answer). when_done a (cleared (job_scratch (shown ticket) p) scratch) scratch) read_whole,
+    ),
+  )

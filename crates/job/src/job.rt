@@ -67,6 +67,7 @@ pub fn run_read(
 // The job. Every ticket, placement and buffer length gets an answer: a finished page and its comparisons, or the
 // first of the fourteen refusals. A refused job writes nothing. A finished one writes only its page, and leaves the
 // scratch it used at zero.
+#[tactic(auto, using(crate::proofs::Running::unread))]
 pub fn run(
     ticket: &[u8],
     p: Placements,
