@@ -211,7 +211,8 @@ pub ruleset unread = (unread_answer, unread_output, unread_scratch, handed_on)
 
 -- one that is read
 module _ (ticket : List ℕ) (p : Placements) (source output scratch : List ℕ) {t : Ticket} (after used : List ℕ)
-    (given : Answer) (done : RanRead t white p source output scratch after used given) (is : reading ticket ≡ Ok t) where
+    (given : Answer) (done : RanRead t white p source output scratch after used given)
+    (is : reading ticket ≡ Ok t) where
   mine : RanRead (shown ticket) white p source output scratch after used given
   mine =
       subst (λ (q : Ticket). RanRead q white p source output scratch after used given)

@@ -28,7 +28,8 @@ returns-in_err-first_refusal c t is =
 pub returns : goal.returns
 returns c t is =
     let trays = c.first_refusal.ensures ∙ ap₂ ◌then◌ c.judge_source-source.ensures c.judge_output-output.ensures in
-    let room = ap (λ (k : ℕ). judge_scratch k c.args.p.width c.args.p.height c.args.n.scratch) (c.pages_of.ensures.every_job t) in
+    let pages = c.pages_of.ensures.every_job t in
+    let room = ap (λ (k : ℕ). judge_scratch k c.args.p.width c.args.p.height c.args.n.scratch) pages in
     let scratch = c.judge_scratch-scratch.ensures ∙ room in
     let rest = c.first_refusal-2.ensures ∙ ap₂ ◌then◌ scratch c.judge_boxes-boxes.ensures in
     then_passed c.in_ok-judge_sides.was c.judge_sides.ensures (then_passed c.in_ok-first_refusal.was trays rest)
