@@ -55,6 +55,7 @@ module _ {file : List ℕ} {f : Field} (m : IsField file (from_maximum file) f) 
       let number = ap (λ (n : ℕ). leb 1 n) m.number ∙ told_above 1 (maximum_in file) (omega arith) in
       rw (number, m.first)
 
+  -- public though this file alone cites it: another crate can have what is judged of the maximum by itself
   pub most_judged : unless (leb f.number 255) (Later BadMaximum) f.first ≡ judge_maximum file
   unfolding judge_maximum maximum_in maximum_place
   most_judged =
